@@ -1,0 +1,3 @@
+-- The worked examples, by evaluation.
+pub mod Tested
+pub mod Worked

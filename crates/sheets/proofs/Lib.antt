@@ -1,0 +1,4 @@
+pub mod Items
+pub mod Bounds
+pub mod Whole
+pub mod Texts

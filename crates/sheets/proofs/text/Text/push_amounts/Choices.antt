@@ -1,0 +1,11 @@
+use mathlib.Core.List.{_++_}
+use mathlib.Core.Path.{_≡_}
+use Prim.Native.Nat.{_+_, _*_, _≤_}
+use lib.ListN.{length, take}
+use Rattle.sheets.specs.Texts.{text-of, amounts-text, listed}
+use Rattle.sheets.proofs.text.Text.push_amounts.Given as given
+
+abbrev pub Inv-loop-part : given.InvT-loop-part
+Inv-loop-part l =
+    (text-of (l .self) ≡ text-of (l .entry .self) ++ listed amounts-text (take (l .part-index) (l .parts)))
+    × (length (text-of (l .self)) ≤ length (text-of (l .entry .self)) + 14 * l .part-index)

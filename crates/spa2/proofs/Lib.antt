@@ -1,0 +1,12 @@
+pub mod Filling
+pub mod Listing
+pub mod Memory
+pub mod Reserves
+pub mod Rounding
+pub mod Scans
+pub mod Splits
+pub mod Steps
+pub mod Table
+pub mod Turns
+pub mod Visits
+pub mod Weights

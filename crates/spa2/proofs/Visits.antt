@@ -1,0 +1,31 @@
+-- What holds while the tasks are visited.
+use mathlib.Core.Bool.{true}
+use mathlib.Core.List.{List, [], _∷_}
+use mathlib.Core.Path.{_≡_, refl, sym, ap, subst, _∙_}
+use Prim.Native.Nat.{ℕ, zero, suc, _+_, _-_, _*_, _≤_, _<_}
+use native.Mathlib.Omega.{arith}
+use lib.Dec.{leb}
+use lib.ListN.{length, getD, set, replicate, length-append, length-set}
+use Rattle.std.proofs.shelf.Tests.{cond-both, and-parts, leb-true}
+use Rattle.spa2.specs.declared.state.Standing.the-variants.{Reserved}
+use Rattle.spa2.specs.Loads.{heavy}
+use Rattle.spa2.specs.Placing.{Tasks, State, load-at, threshold, followers, free, goes-beforehand, beforehand, pieced, visited, placed, weight}
+use Rattle.spa2.proofs.Weights.{opens-few}
+
+-- Of i tasks visited, each is a piece or was placed on a processor of its own, which is in reserve.
+pub record Visiting (s : State) (i : ℕ) : Type 0 where
+  pub listed : length (s .parts) ≡ length (s .reserve)
+  pub seated : length (s .reserve) ≤ length (s .processors)
+  pub each : length (s .pieces) + length (s .reserve) ≡ i
+
+pub visited-visiting : (t : Tasks) (s : State) (i : ℕ) → Visiting s i → Visiting (visited t s i) (i + 1)
+visited-visiting t s i v =
+    cond-both (goes-beforehand t s i) (beforehand t s i) (pieced t s i) (λ z. Visiting z (i + 1))
+    (λ e.
+      let some : 1 ≤ free s = leb-true 1 (free s) (and-parts _ _ (and-parts _ _ e .1) .0) in
+      record {
+        listed = omega (arith, v .listed, length-append (s .parts) (placed i (length (s .reserve)) (t .cost i) ∷ []));
+        seated = omega (arith, length-set (s .processors) (length (s .reserve)) (record { load = load-at t i; standing = Reserved }));
+        each = omega (arith, v .each);
+      })
+    (λ e. record { listed = v .listed; seated = v .seated; each = omega (arith, v .each) })

@@ -1,0 +1,10 @@
+// The planner: SPA2, which places tasks on processors and cuts those that do not fit whole.
+pub mod front;
+mod load;
+pub mod piece;
+pub mod planning;
+mod state;
+#[cfg(test)]
+mod tests;
+pub mod theta;
+mod windows;

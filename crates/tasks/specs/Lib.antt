@@ -1,0 +1,10 @@
+pub mod Numbers
+pub mod Searches
+pub mod Faults
+pub mod Sets
+pub mod Orders
+pub mod Arrivals
+pub mod Spacing
+pub mod Tokens
+pub mod Buckets
+pub mod Ranks
