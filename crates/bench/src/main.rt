@@ -16,6 +16,7 @@ use tasks::spaced::SpacedRule;
 
 mod names;
 mod report;
+mod strip;
 
 use names::Names;
 
@@ -28,7 +29,12 @@ struct Planned {
 // The sheet's tasks and their plan, under rate-monotonic order and spaced arrivals.
 fn plan_of_sheet(bytes: &[u8]) -> Result<Planned, PlanFault> {
     let sheet = read_task_sheet(bytes)?;
-    let proposal = plan(&sheet.set, sheet.processors, &RateMonotonic, &Spaced::new(&sheet.set))?;
+    let proposal = plan(
+        &sheet.set,
+        sheet.processors,
+        &RateMonotonic,
+        &Spaced::new(&sheet.set),
+    )?;
     Ok(Planned { sheet, proposal })
 }
 
@@ -43,7 +49,7 @@ fn main(rt: LibcRuntime) -> Result<(), AnyError> {
             report::tasks(&rt, &names, &sheet)?;
             report::processors(&rt, &names, &sheet, parts.as_slice())?;
             report::cut_tasks(&rt, &names, &sheet, parts.as_slice())?;
-            Ok(())
+            strip::drive_and_print(&rt, &sheet, parts)
         }
         Err(fault) => {
             println!(rt, "{fault}")?;

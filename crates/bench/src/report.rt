@@ -2,6 +2,7 @@
 use crate::names::Names;
 use schedule::Part;
 use sheets::TaskSheet;
+use spa2::load::task_load;
 use spa2::theta::theta;
 use std::io;
 
@@ -15,20 +16,30 @@ pub fn tasks(rt: &LibcRuntime, names: &Names, sheet: &TaskSheet) -> io::Result<(
     let count = sheet.set.count();
     let processors = sheet.processors;
     let (whole, part) = percent(theta(count));
-    println!(rt, "{count} tasks on {processors} processors, each filled up to {whole}.{part:04} %")?;
+    println!(
+        rt,
+        "{count} tasks on {processors} processors, each filled up to {whole}.{part:04} %"
+    )?;
     for task in 0..count {
         let name = names.of(task);
         let period = sheet.set.period(task);
         let cost = sheet.set.cost(task);
-        let load = (cost as u64 * 1_000_000).div_ceil((period as u64).max(1));
-        let (whole, part) = percent(load);
-        println!(rt, "task {task} {name}: {cost} ticks every {period}, load {whole}.{part:04} %")?;
+        let (whole, part) = percent(task_load(&sheet.set, task));
+        println!(
+            rt,
+            "task {task} {name}: {cost} ticks every {period}, load {whole}.{part:04} %"
+        )?;
     }
     Ok(())
 }
 
 // Which processor got which part.
-pub fn processors(rt: &LibcRuntime, names: &Names, sheet: &TaskSheet, parts: &[Part]) -> io::Result<()> {
+pub fn processors(
+    rt: &LibcRuntime,
+    names: &Names,
+    sheet: &TaskSheet,
+    parts: &[Part],
+) -> io::Result<()> {
     for processor in 0..sheet.processors {
         println!(rt, "processor {processor}")?;
         for part in parts {
@@ -55,7 +66,12 @@ fn part_count(parts: &[Part], task: usize) -> usize {
 }
 
 // The life of each task that was cut: cost and window of each part, and from which tick to which after its release it may run.
-pub fn cut_tasks(rt: &LibcRuntime, names: &Names, sheet: &TaskSheet, parts: &[Part]) -> io::Result<()> {
+pub fn cut_tasks(
+    rt: &LibcRuntime,
+    names: &Names,
+    sheet: &TaskSheet,
+    parts: &[Part],
+) -> io::Result<()> {
     for task in 0..sheet.set.count() {
         let count = part_count(parts, task);
         if count > 1 {
@@ -76,7 +92,10 @@ fn life(rt: &LibcRuntime, parts: &[Part], task: usize) -> io::Result<()> {
             let window = part.window;
             let processor = part.processor;
             let end = begin.saturating_add(window as u64);
-            println!(rt, "  {cost} ticks in a window of {window} on processor {processor}, from tick {begin} up to tick {end} after its release")?;
+            println!(
+                rt,
+                "  {cost} ticks in a window of {window} on processor {processor}, from tick {begin} up to tick {end} after its release"
+            )?;
             begin = end;
         }
     }

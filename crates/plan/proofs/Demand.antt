@@ -54,14 +54,16 @@ module _ (sys : System) (q : Part) (laws : (i : ℕ) → Curve (sys .curve i)) w
   -- Where t is too short, so is every stretch up to what it asks for.
   pub short-on : (t : ℕ) → Short-of sys q t → t < demand sys q t → Short-of sys q (demand sys q t)
   short-on t before short u some h = elim (cases-lt u t) [
-      inl l ↦ before u some l
-    | inr g ↦ omega (arith, demand-mono t u g) ]
+    | inl l ↦ before u some l
+    | inr g ↦ omega (arith, demand-mono t u g)
+  ]
 
   -- A stretch that suffices, where every shorter one is too short, is the response time.
   pub found : (limit t : ℕ) → 1 ≤ t → t ≤ limit → demand sys q t ≤ t → Short-of sys q t → (response-within sys q limit ≡ Some t) × Least sys q limit (Some t)
-  found limit t some in-limit enough before =
-      (from-found _ 1 limit t some (omega arith) (λ v a b. lt-leb _ _ (before v a b)) (le-leb _ _ enough),
-        ((some, in-limit, enough), λ u h s. omega (arith, before u (s .0) h, s .2)))
+  found limit t some in-limit enough before = (
+    from-found _ 1 limit t some (omega arith) (λ v a b. lt-leb _ _ (before v a b)) (le-leb _ _ enough),
+    ((some, in-limit, enough), λ u h s. omega (arith, before u (s .0) h, s .2)),
+  )
 
   -- Where every stretch up to the limit is too short, there is none.
   pub not-found : (limit t : ℕ) → limit < t → Short-of sys q t → (response-within sys q limit ≡ None) × Least sys q limit None

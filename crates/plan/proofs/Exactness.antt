@@ -57,20 +57,22 @@ module _ (set : TaskSet) (m : ℕ) (ps : List Part) (before : TaskKey → TaskKe
       × (Can-be-late set m ps before curve → As-late (refused-or (orOther (mapped Late o) (whenTrue (ltb room (length ps)) (Cramped (length ps)))) (length ps)))
   by-late room None e passes sub =
       let laid = laid-out set m ps before curve order-law curve-law passes in
-      let timely = in-time set m ps before curve (ap (mapped Late) e) in
-      ((λ h. absurd (cramped-not-late (ltb room (length ps)) (length ps) h)),
-        (λ can. absurd (exact sys laid (subadditive sub) .1 (can .0) (can .1) timely)))
+      let timely = in-time set m ps before curve (ap (mapped Late) e) in (
+        (λ h. absurd (cramped-not-late (ltb room (length ps)) (length ps) h)),
+        (λ can. absurd (exact sys laid (subadditive sub) .1 (can .0) (can .1) timely)),
+      )
   by-late room (Some k) e passes sub =
-      let laid = laid-out set m ps before curve order-law curve-law passes in
-      ((λ h. let calls = exact sys laid (subadditive sub) .0 (λ timely.
+      let laid = laid-out set m ps before curve order-law curve-law passes in (
+        (λ h. let calls = exact sys laid (subadditive sub) .0 (λ timely.
             let none = not-late set m ps before curve timely in
             let some = ap (mapped Late) e in
             let z : _≡_ {A = ℕ} 0 1 = cc in omega arith) in
-          (calls .0, calls .1)),
-        (λ can. (Late k, refl, refl, refl)))
+            (calls .0, calls .1)),
+        (λ can. (Late k, refl, refl, refl)),
+      )
 
   pub exactly-late : (room : ℕ) → Exactly-late set m ps before curve (check-answer set m ps before curve room)
   exactly-late room passes sub =
       let split = by-late room (first-where (late sys) (length ps)) refl passes sub in
       subst (λ (o : Option PlanFault). (As-late (refused-or (orOther (orOther o (late-fault set m ps before curve)) (whenTrue (ltb room (length ps)) (Cramped (length ps)))) (length ps)) → Can-be-late set m ps before curve)
-        × (Can-be-late set m ps before curve → As-late (refused-or (orOther (orOther o (late-fault set m ps before curve)) (whenTrue (ltb room (length ps)) (Cramped (length ps)))) (length ps)))) (sym passes) split
+      × (Can-be-late set m ps before curve → As-late (refused-or (orOther (orOther o (late-fault set m ps before curve)) (whenTrue (ltb room (length ps)) (Cramped (length ps)))) (length ps)))) (sym passes) split

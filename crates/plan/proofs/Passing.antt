@@ -76,15 +76,15 @@ passed set m ps e =
       some-parts = omega (arith, no-parts);
       few-parts = ltb-false 64 (length ps) (counts .1);
       scaled = λ k h.
-        let parts = or-parts _ _ (scales k h) in
-        let cost = on-scale-is (part-at ps k .cost) (parts .0) in
-        let window = on-scale-is (part-at ps k .window) (parts .1) in
-        (cost .0, cost .1, window .0, window .1);
+          let parts = or-parts _ _ (scales k h) in
+          let cost = on-scale-is (part-at ps k .cost) (parts .0) in
+          let window = on-scale-is (part-at ps k .window) (parts .1) in
+          (cost .0, cost .1, window .0, window .1);
       known = λ k h.
-        let parts = or-parts _ _ (strangers k h) in
-        (leb-false (count-of set) (part-at ps k .task) (parts .0), leb-false m (part-at ps k .processor) (parts .1));
+          let parts = or-parts _ _ (strangers k h) in
+          (leb-false (count-of set) (part-at ps k .task) (parts .0), leb-false m (part-at ps k .processor) (parts .1));
       apart = λ j k lt h same-task same-proc.
-        both-ways (same-place (part-at ps j) (part-at ps k)) (none-where (λ x. same-place (part-at ps x) (part-at ps k)) k (is-none _ (twins k h)) j lt)
+          both-ways (same-place (part-at ps j) (part-at ps k)) (none-where (λ x. same-place (part-at ps x) (part-at ps k)) k (is-none _ (twins k h)) j lt)
           (and-from _ _ (eq-eqb _ _ same-task) (eq-eqb _ _ same-proc));
       summed = λ i h. eqb-true _ _ (not-false _ (counted i h));
     }

@@ -62,8 +62,8 @@ module _ (set : TaskSet) (m : ℕ) (ps : List Part) (h : Passed set m ps) where
       let second : part-at ps k ≡ q = subst (λ (l : List Part). part-at l k ≡ q) (sym (e ∙ regrouped)) (at-front (xs ++ (p ∷ ys)) zs q) in
       let long = ap length (e ∙ regrouped) ∙ length-join (xs ++ (p ∷ ys)) (q ∷ zs) in
       h .apart (length xs) k (omega (arith, length-join xs (p ∷ ys))) (omega (arith, long))
-        (ap (λ (x : Part). x .task) first ∙ t ∙ sym (ap (λ (x : Part). x .task) second))
-        (ap (λ (x : Part). x .processor) first ∙ s ∙ sym (ap (λ (x : Part). x .processor) second))
+      (ap (λ (x : Part). x .task) first ∙ t ∙ sym (ap (λ (x : Part). x .task) second))
+      (ap (λ (x : Part). x .processor) first ∙ s ∙ sym (ap (λ (x : Part). x .processor) second))
     where
       regroup : (xs ys zs : List Part) (p q : Part) → xs ++ (p ∷ (ys ++ (q ∷ zs))) ≡ (xs ++ (p ∷ ys)) ++ (q ∷ zs)
       regroup [] ys zs p q = refl
@@ -82,29 +82,35 @@ swap g ps (q ∷ qs) = omega (arith, total-plus (λ p. g p q) (λ p. total (g p)
 one-window : (i q : ℕ) (ps : List Part) → ((p : Part) → p ∈ ps → p .window ≤ 100000) → Apart ps → total (window-on i q) ps ≤ 100000
 one-window i q [] small apart = omega arith
 one-window i q (p ∷ ps) small apart = elim (cases-bool (eqb (p .task) i && eqb (p .processor) q)) [
-    inl e ↦
+  | inl e ↦
       let mine = and-parts _ _ e in
       let none = total-none (window-on i q) ps (λ r mem. elim (cases-bool (eqb (r .task) i && eqb (r .processor) q)) [
-          inl f ↦ let its = and-parts _ _ f in absurd (apart [] (mem .0) (mem .1) p r (ap (λ (l : List Part). p ∷ l) (mem .2))
-              (eqb-true _ _ (mine .0) ∙ sym (eqb-true _ _ (its .0))) (eqb-true _ _ (mine .1) ∙ sym (eqb-true _ _ (its .1))))
-        | inr f ↦ cond-false _ _ _ f ]) in
+        | inl f ↦ let its = and-parts _ _ f in absurd (apart [] (mem .0) (mem .1) p r (ap (λ (l : List Part). p ∷ l) (mem .2))
+            (eqb-true _ _ (mine .0) ∙ sym (eqb-true _ _ (its .0))) (eqb-true _ _ (mine .1) ∙ sym (eqb-true _ _ (its .1))))
+        | inr f ↦ cond-false _ _ _ f
+      ]) in
       omega (arith, none, cond-true (eqb (p .task) i && eqb (p .processor) q) (p .window) 0 e, small p (in-here p ps))
   | inr e ↦
-      omega (arith, cond-false (eqb (p .task) i && eqb (p .processor) q) (p .window) 0 e,
-        one-window i q ps (λ r mem. small r (in-there r p ps mem)) (λ xs ys zs a b f. apart (p ∷ xs) ys zs a b (ap (λ (l : List Part). p ∷ l) f))) ]
+      omega (
+        arith,
+        cond-false (eqb (p .task) i && eqb (p .processor) q) (p .window) 0 e,
+        one-window i q ps (λ r mem. small r (in-there r p ps mem)) (λ xs ys zs a b f. apart (p ∷ xs) ys zs a b (ap (λ (l : List Part). p ∷ l) f)),
+      )
+]
 
 -- A part's window stands under its own processor.
 under-own : (i : ℕ) (p : Part) → p .processor < 8 → cond (eqb (p .task) i) (p .window) 0 ≤ total (λ q. window-on i q p) (below 8)
 under-own i p h =
     let mine = total-at (λ q. window-on i q p) (below 8) (p .processor) (in-below (p .processor) 8 h) in
     elim (cases-bool (eqb (p .task) i)) [
-      inl e ↦ omega (arith, mine, cond-true (eqb (p .task) i && eqb (p .processor) (p .processor)) (p .window) 0 (and-from _ _ e (eq-eqb _ _ refl)), cond-true (eqb (p .task) i) (p .window) 0 e)
-    | inr e ↦ omega (arith, cond-false (eqb (p .task) i) (p .window) 0 e) ]
+      | inl e ↦ omega (arith, mine, cond-true (eqb (p .task) i && eqb (p .processor) (p .processor)) (p .window) 0 (and-from _ _ e (eq-eqb _ _ refl)), cond-true (eqb (p .task) i) (p .window) 0 e)
+      | inr e ↦ omega (arith, cond-false (eqb (p .task) i) (p .window) 0 e)
+    ]
 
 pub span-bound : (set : TaskSet) (m : ℕ) (ps : List Part) → Passed set m ps → (i : ℕ) → span-of ps i ≤ 800000
 span-bound set m ps h i =
     let each = total-le (λ p. cond (eqb (p .task) i) (p .window) 0) (λ p. total (λ q. window-on i q p) (below 8)) ps
-        (λ p mem. under-own i p (omega (arith, known-in set m ps h p mem .1, h .few-procs))) in
+    (λ p mem. under-own i p (omega (arith, known-in set m ps h p mem .1, h .few-procs))) in
     let swapped = swap (λ p q. window-on i q p) ps (below 8) in
     let small : (q : ℕ) → total (window-on i q) ps ≤ 100000 = λ q. one-window i q ps (λ p mem. scaled-in set m ps h p mem .3) (apart-in set m ps h) in
     omega (arith, each, swapped, small 0, small 1, small 2, small 3, small 4, small 5, small 6, small 7)

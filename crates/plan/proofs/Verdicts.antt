@@ -56,8 +56,9 @@ module _ (set : TaskSet) (before : TaskKey → TaskKey → Bool) (law : Lawful-o
 
   asymmetric : (a b : ℕ) → a < count-of set → b < count-of set → T (before (as-asked (key-of set a)) (as-asked (key-of set b))) → T (before (as-asked (key-of set b)) (as-asked (key-of set a))) → ⊥
   asymmetric a b ha hb x y = elim (cases-eq a b) [
-      inl e ↦ irreflexive a (subst (λ (k : ℕ). T (before (as-asked (key-of set a)) (as-asked (key-of set k)))) (sym e) x)
-    | inr ne ↦ law .asymmetric _ _ (told a) (told b) (apart-numbers a b ha hb ne) x y ]
+    | inl e ↦ irreflexive a (subst (λ (k : ℕ). T (before (as-asked (key-of set a)) (as-asked (key-of set k)))) (sym e) x)
+    | inr ne ↦ law .asymmetric _ _ (told a) (told b) (apart-numbers a b ha hb ne) x y
+  ]
 
   pub ordered : Ordered (count-of set) (λ a b. before (as-asked (key-of set a)) (as-asked (key-of set b)))
   ordered = record {
@@ -65,12 +66,15 @@ module _ (set : TaskSet) (before : TaskKey → TaskKey → Bool) (law : Lawful-o
     connected = λ a b ha hb ne. law .connected _ _ (told a) (told b) (apart-numbers a b ha hb ne);
     asymmetric = asymmetric;
     transitive = λ a b c ha hb hc x y. elim (cases-eq a b) [
-        inl e ↦ absurd (irreflexive a (subst (λ (k : ℕ). T (before (as-asked (key-of set a)) (as-asked (key-of set k)))) (sym e) x))
+      | inl e ↦ absurd (irreflexive a (subst (λ (k : ℕ). T (before (as-asked (key-of set a)) (as-asked (key-of set k)))) (sym e) x))
       | inr ab ↦ elim (cases-eq b c) [
-          inl e ↦ absurd (irreflexive b (subst (λ (k : ℕ). T (before (as-asked (key-of set b)) (as-asked (key-of set k)))) (sym e) y))
+        | inl e ↦ absurd (irreflexive b (subst (λ (k : ℕ). T (before (as-asked (key-of set b)) (as-asked (key-of set k)))) (sym e) y))
         | inr bc ↦ elim (cases-eq a c) [
-            inl e ↦ absurd (asymmetric a b ha hb x (subst (λ (k : ℕ). T (before (as-asked (key-of set b)) (as-asked (key-of set k)))) (sym e) y))
-          | inr ac ↦ law .transitive _ _ _ (told a) (told b) (told c) (apart-numbers a b ha hb ab) (apart-numbers b c hb hc bc) (apart-numbers a c ha hc ac) x y ] ] ];
+          | inl e ↦ absurd (asymmetric a b ha hb x (subst (λ (k : ℕ). T (before (as-asked (key-of set b)) (as-asked (key-of set k)))) (sym e) y))
+          | inr ac ↦ law .transitive _ _ _ (told a) (told b) (told c) (apart-numbers a b ha hb ab) (apart-numbers b c hb hc bc) (apart-numbers a c ha hc ac) x y
+        ]
+      ]
+    ];
   }
 
 module _ (set : TaskSet) (m : ℕ) (ps : List Part) (before : TaskKey → TaskKey → Bool) (curve : ℕ → ℕ → ℕ) where
@@ -103,15 +107,17 @@ module _ (set : TaskSet) (m : ℕ) (ps : List Part) (before : TaskKey → TaskKe
       go : (n t : ℕ) → 1 ≤ t → t + n ≤ 1 + limit → isSome (first-from (λ u. leb (demand sys q u) u) t n) ≡ true → (t : ℕ) × Suffices sys q t
       go zero t some fits e = let z : _≡_ {A = ℕ} 0 1 = cc in absurd (omega arith)
       go (suc n) t some fits e = elim (cases-bool (leb (demand sys q t) t)) [
-          inl y ↦ (t, (some, omega arith, leb-true _ _ y))
-        | inr f ↦ go n (suc t) (omega arith) (omega arith) (subst (λ (b : Bool). isSome (cond b (Some t) (first-from (λ u. leb (demand sys q u) u) (suc t) n)) ≡ true) f e) ]
+        | inl y ↦ (t, (some, omega arith, leb-true _ _ y))
+        | inr f ↦ go n (suc t) (omega arith) (omega arith) (subst (λ (b : Bool). isSome (cond b (Some t) (first-from (λ u. leb (demand sys q u) u) (suc t) n)) ≡ true) f e)
+      ]
 
   -- Where some stretch suffices, the search finds one.
   found-some : (test : ℕ → Bool) (n t u : ℕ) → t ≤ u → u < t + n → test u ≡ true → isSome (first-from test t n) ≡ true
   found-some test zero t u a b e = absurd (omega arith)
   found-some test (suc n) t u a b e = elim (cases-bool (test t)) [
-      inl y ↦ ap (λ (o : Option ℕ). isSome o) (cond-true (test t) (Some t) (first-from test (suc t) n) y)
-    | inr f ↦ ap (λ (o : Option ℕ). isSome o) (cond-false (test t) (Some t) (first-from test (suc t) n) f) ∙ found-some test n (suc t) u (later t u a (λ q. both-ways (test t) f (subst (λ (x : ℕ). test x ≡ true) (sym q) e))) (omega arith) e ]
+    | inl y ↦ ap (λ (o : Option ℕ). isSome o) (cond-true (test t) (Some t) (first-from test (suc t) n) y)
+    | inr f ↦ ap (λ (o : Option ℕ). isSome o) (cond-false (test t) (Some t) (first-from test (suc t) n) f) ∙ found-some test n (suc t) u (later t u a (λ q. both-ways (test t) f (subst (λ (x : ℕ). test x ≡ true) (sym q) e))) (omega arith) e
+  ]
     where
       later : (t u : ℕ) → t ≤ u → (t ≡ u → ⊥) → suc t ≤ u
       later t u h ne = elim (cases-eq t u) [ inl q ↦ absurd (ne q) | inr o ↦ omega arith ]
@@ -127,6 +133,6 @@ module _ (set : TaskSet) (m : ℕ) (ps : List Part) (before : TaskKey → TaskKe
   pub not-late : In-time (system set m ps before curve) → late-fault set m ps before curve ≡ None
   not-late timely =
       ap (mapped Late) (sym (first-none (late sys) (length ps) (λ k h.
-        let q = part-at ps k in
-        let t = timely q (at-place ps k h) in
-        not-from-true _ (found-some _ (q .window) 1 (t .0) (t .1 .0) (omega (arith, t .1 .1)) (le-leb _ _ (t .1 .2))))))
+      let q = part-at ps k in
+      let t = timely q (at-place ps k h) in
+      not-from-true _ (found-some _ (q .window) 1 (t .0) (t .1 .0) (omega (arith, t .1 .1)) (le-leb _ _ (t .1 .2))))))

@@ -24,7 +24,14 @@ use tasks::order::PriorityOrder;
 use tasks::set::TaskSet;
 
 // Whether the task may be released again before its last window has ended.
-fn is_overlapping<O: PriorityOrder, R: ArrivalRule>(set: &TaskSet, processors: usize, list: &PartList, order: &O, rule: &R, task: usize) -> bool
+fn is_overlapping<O: PriorityOrder, R: ArrivalRule>(
+    set: &TaskSet,
+    processors: usize,
+    list: &PartList,
+    order: &O,
+    rule: &R,
+    task: usize,
+) -> bool
     requires { ⌜ number-fault (now set) processors (parts-of (now list)) ≡ None ⌝ }
     ensures { λ r. ⌜ r ≡ overlap (system (now (set .entry)) processors (parts-of (now (list .entry))) (before (now (order .entry))) (curve (now (rule .entry)))) task ⌝ }
 {
@@ -32,7 +39,13 @@ fn is_overlapping<O: PriorityOrder, R: ArrivalRule>(set: &TaskSet, processors: u
 }
 
 // The first task that may be released again before its last window has ended.
-fn first_overlap<O: PriorityOrder, R: ArrivalRule>(set: &TaskSet, processors: usize, list: &PartList, order: &O, rule: &R) -> Option<usize>
+fn first_overlap<O: PriorityOrder, R: ArrivalRule>(
+    set: &TaskSet,
+    processors: usize,
+    list: &PartList,
+    order: &O,
+    rule: &R,
+) -> Option<usize>
     requires { ⌜ number-fault (now set) processors (parts-of (now list)) ≡ None ⌝ }
     ensures { λ r. ⌜ r ≡ first-where (overlap (system (now (set .entry)) processors (parts-of (now (list .entry))) (before (now (order .entry))) (curve (now (rule .entry))))) (count-of (now (set .entry))) ⌝ }
 {
@@ -45,7 +58,13 @@ fn first_overlap<O: PriorityOrder, R: ArrivalRule>(set: &TaskSet, processors: us
 }
 
 // What is wrong with a plan before its parts are asked for their response times.
-fn fault_before_lateness<O: PriorityOrder, R: ArrivalRule>(set: &TaskSet, processors: usize, list: &PartList, order: &O, rule: &R) -> Option<PlanFault>
+fn fault_before_lateness<O: PriorityOrder, R: ArrivalRule>(
+    set: &TaskSet,
+    processors: usize,
+    list: &PartList,
+    order: &O,
+    rule: &R,
+) -> Option<PlanFault>
     ensures { λ r. ⌜ r ≡ earlier-fault (now (set .entry)) processors (parts-of (now (list .entry))) (before (now (order .entry))) (curve (now (rule .entry))) ⌝ }
 {
     if let Some(fault) = fault_of_numbers(set, processors, list) {
@@ -58,7 +77,14 @@ fn fault_before_lateness<O: PriorityOrder, R: ArrivalRule>(set: &TaskSet, proces
 }
 
 // The response time of the part at `index`, searched in its window.
-fn time_in_window<O: PriorityOrder, R: ArrivalRule>(set: &TaskSet, processors: usize, list: &PartList, order: &O, rule: &R, index: usize) -> Option<u32>
+fn time_in_window<O: PriorityOrder, R: ArrivalRule>(
+    set: &TaskSet,
+    processors: usize,
+    list: &PartList,
+    order: &O,
+    rule: &R,
+    index: usize,
+) -> Option<u32>
     requires numbers { ⌜ number-fault (now set) processors (parts-of (now list)) ≡ None ⌝ }
     requires within { ⌜ index < length (parts-of (now list)) ⌝ }
     ensures { λ r. ⌜ r ≡ response-within (system (now (set .entry)) processors (parts-of (now (list .entry))) (before (now (order .entry))) (curve (now (rule .entry)))) (part-at (parts-of (now (list .entry))) index) (part-at (parts-of (now (list .entry))) index .window) ⌝ }
@@ -68,7 +94,13 @@ fn time_in_window<O: PriorityOrder, R: ArrivalRule>(set: &TaskSet, processors: u
 }
 
 // The response times of all parts, each searched in its window, or the first part that has none.
-fn response_times<O: PriorityOrder, R: ArrivalRule>(set: &TaskSet, processors: usize, list: &PartList, order: &O, rule: &R) -> Result<[u32; 64], usize>
+fn response_times<O: PriorityOrder, R: ArrivalRule>(
+    set: &TaskSet,
+    processors: usize,
+    list: &PartList,
+    order: &O,
+    rule: &R,
+) -> Result<[u32; 64], usize>
     requires { ⌜ number-fault (now set) processors (parts-of (now list)) ≡ None ⌝ }
     ensures { λ r. ⌜ Timed (system (now (set .entry)) processors (parts-of (now (list .entry))) (before (now (order .entry))) (curve (now (rule .entry)))) (parts-of (now (list .entry))) r ⌝ }
 {
@@ -83,7 +115,14 @@ fn response_times<O: PriorityOrder, R: ArrivalRule>(set: &TaskSet, processors: u
 }
 
 // What is wrong with a plan, a buffer with room for too few response times last, or the response times.
-fn judge<O: PriorityOrder, R: ArrivalRule>(set: &TaskSet, processors: usize, list: &PartList, order: &O, rule: &R, room: usize) -> Result<[u32; 64], PlanFault>
+fn judge<O: PriorityOrder, R: ArrivalRule>(
+    set: &TaskSet,
+    processors: usize,
+    list: &PartList,
+    order: &O,
+    rule: &R,
+    room: usize,
+) -> Result<[u32; 64], PlanFault>
     ensures { λ r. ⌜ Judged (check-fault (now (set .entry)) processors (parts-of (now (list .entry))) (before (now (order .entry))) (curve (now (rule .entry))) room) (system (now (set .entry)) processors (parts-of (now (list .entry))) (before (now (order .entry))) (curve (now (rule .entry)))) (parts-of (now (list .entry))) r ⌝ }
 {
     if let Some(fault) = fault_before_lateness(set, processors, list, order, rule) {
@@ -93,8 +132,29 @@ fn judge<O: PriorityOrder, R: ArrivalRule>(set: &TaskSet, processors: usize, lis
         Err(part) => Err(PlanFault::Late { part }),
         Ok(times) => {
             let needed = list.len();
-            if room < needed { Err(PlanFault::Cramped { needed }) } else { Ok(times) }
+            if room < needed {
+                Err(PlanFault::Cramped { needed })
+            } else {
+                Ok(times)
+            }
         }
+    }
+}
+
+// What the check would refuse a plan for, where there is room for so many response times; none where it would accept it.
+pub fn fault_of<O: PriorityOrder, R: ArrivalRule>(
+    set: &TaskSet,
+    processors: usize,
+    proposal: &Proposal,
+    order: &O,
+    rule: &R,
+    room: usize,
+) -> Option<PlanFault>
+    ensures { λ r. ⌜ r ≡ check-fault (now (set .entry)) processors (plan-of (now (proposal .entry))) (before (now (order .entry))) (curve (now (rule .entry))) room ⌝ }
+{
+    match judge(set, processors, &proposal.list, order, rule, room) {
+        Ok(_) => None,
+        Err(fault) => Some(fault),
     }
 }
 
@@ -112,7 +172,15 @@ fn write_times(times: &[u32; 64], count: usize, responses: &mut [u32])
 // Checks a plan for the tasks of a set on `processors` processors, under a priority order and an arrival rule. Accepted, the response
 // times of its parts stand in the first entries of `responses`, `place` holds the plan with all that it was checked under, and the
 // answer is how many parts it has. Refused, both are as they were. The proposal is used up either way.
-pub fn check<O: PriorityOrder + Drop, R: ArrivalRule + Drop>(set: TaskSet, processors: usize, proposal: Proposal, order: O, rule: R, place: &mut CheckedPlan<O, R>, responses: &mut [u32]) -> Result<usize, PlanFault>
+pub fn check<O: PriorityOrder + Drop, R: ArrivalRule + Drop>(
+    set: TaskSet,
+    processors: usize,
+    proposal: Proposal,
+    order: O,
+    rule: R,
+    place: &mut CheckedPlan<O, R>,
+    responses: &mut [u32],
+) -> Result<usize, PlanFault>
     ensures answer { λ r. ⌜ r ≡ check-answer set processors (plan-of proposal) (before order) (curve rule) (length (now (responses .entry))) ⌝ }
     ensures times { λ r. ⌜ now (responses .exit) ≡ check-buffer set processors (plan-of proposal) (before order) (curve rule) r (now (responses .entry)) ⌝ }
     ensures held { λ r. ⌜ Cases r (λ _. (now (place .exit) .set ≡ set) × (now (place .exit) .processors ≡ processors) × (parts-of (now (place .exit) .list) ≡ plan-of proposal) × (now (place .exit) .order ≡ order) × (now (place .exit) .rule ≡ rule)) (λ _. now (place .exit) ≡ now (place .entry)) ⌝ }
@@ -122,6 +190,12 @@ pub fn check<O: PriorityOrder + Drop, R: ArrivalRule + Drop>(set: TaskSet, proce
     let times = judge(&set, processors, &list, &order, &rule, responses.len())?;
     let count = list.len();
     write_times(&times, count, responses);
-    *place = CheckedPlan { set, processors, list, order, rule };
+    *place = CheckedPlan {
+        set,
+        processors,
+        list,
+        order,
+        rule,
+    };
     Ok(count)
 }

@@ -60,7 +60,11 @@ impl PlanFault {
             PlanFault::Squeezed { part } => (12, part),
             PlanFault::Cramped { needed } => (17, needed),
         };
-        Refusal { layer: 'K', number, place: place as u64 }
+        Refusal {
+            layer: 'K',
+            number,
+            place: place as u64,
+        }
     }
 }
 

@@ -1,7 +1,9 @@
 // Plans: how tasks are cut into parts, and how long each part may take to run.
-mod check;
-mod checked;
+pub mod check;
+pub mod checked;
 pub mod fault;
 pub mod numbers;
 pub mod parts;
 pub mod response;
+#[cfg(test)]
+mod tests;

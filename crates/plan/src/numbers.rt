@@ -125,7 +125,11 @@ fn first_miscount(set: &TaskSet, list: &PartList) -> Option<usize>
 }
 
 // What is wrong with the numbers of a plan, the first check that finds something first.
-pub(crate) fn fault_of_numbers(set: &TaskSet, processors: usize, list: &PartList) -> Option<PlanFault>
+pub(crate) fn fault_of_numbers(
+    set: &TaskSet,
+    processors: usize,
+    list: &PartList,
+) -> Option<PlanFault>
     ensures { λ r. ⌜ r ≡ number-fault (now (set .entry)) processors (parts-of (now (list .entry))) ⌝ }
 {
     if processors == 0 || processors > MAX_PROCESSORS {

@@ -19,7 +19,7 @@ pub struct PartList {
 // A plan that has not been checked: 1 to 64 parts, whose numbers may be off every scale. It cannot be let go: the check uses it
 // up, or it is given up.
 pub struct Proposal {
-    list: PartList,
+    pub(crate) list: PartList,
     ghost some: { 1 ≤ list .count },
 }
 

@@ -18,7 +18,14 @@ use tasks::set::TaskSet;
 pub const LONGEST: u32 = 1_000_000;
 
 // What another part may need of the part's processor, ahead of it, in `length` successive ticks.
-fn interference<O: PriorityOrder, R: ArrivalRule>(set: &TaskSet, part: Part, other: Part, length: u64, order: &O, rule: &R) -> u64
+fn interference<O: PriorityOrder, R: ArrivalRule>(
+    set: &TaskSet,
+    part: Part,
+    other: Part,
+    length: u64,
+    order: &O,
+    rule: &R,
+) -> u64
     requires { ⌜ length ≤ 1000000 ⌝ }
     ensures value { λ r. ⌜ ((ps : List Part) → r ≡ share (system (now (set .entry)) 0 ps (before (now (order .entry))) (curve (now (rule .entry)))) part length other) ⌝ }
     ensures bound { λ r. ⌜ r ≤ 4294967296000000 ⌝ }
@@ -34,7 +41,14 @@ fn interference<O: PriorityOrder, R: ArrivalRule>(set: &TaskSet, part: Part, oth
 }
 
 // What the part and all that can go before it on its processor may need in `length` successive ticks.
-fn needed<O: PriorityOrder, R: ArrivalRule>(set: &TaskSet, parts: &PartList, part: Part, length: u64, order: &O, rule: &R) -> u64
+fn needed<O: PriorityOrder, R: ArrivalRule>(
+    set: &TaskSet,
+    parts: &PartList,
+    part: Part,
+    length: u64,
+    order: &O,
+    rule: &R,
+) -> u64
     requires { ⌜ length ≤ 1000000 ⌝ }
     ensures { λ r. ⌜ r ≡ demand (system (now (set .entry)) 0 (parts-of (now (parts .entry))) (before (now (order .entry))) (curve (now (rule .entry)))) part length ⌝ }
 {
@@ -48,7 +62,14 @@ fn needed<O: PriorityOrder, R: ArrivalRule>(set: &TaskSet, parts: &PartList, par
 // The least number of ticks, from 1 up to the limit, that suffice for the part and for all that can go before it on its
 // processor among the parts; none where no such number does. A limit above 1,000,000 is read as 1,000,000. The windows of the
 // parts do not matter.
-pub fn response_time<O: PriorityOrder, R: ArrivalRule>(set: &TaskSet, parts: &PartList, part: Part, limit: u32, order: &O, rule: &R) -> Option<u32>
+pub fn response_time<O: PriorityOrder, R: ArrivalRule>(
+    set: &TaskSet,
+    parts: &PartList,
+    part: Part,
+    limit: u32,
+    order: &O,
+    rule: &R,
+) -> Option<u32>
     ensures value { λ r. ⌜ ((m : ℕ) → r ≡ response-within (system (now (set .entry)) m (parts-of (now (parts .entry))) (before (now (order .entry))) (curve (now (rule .entry)))) part (as-long limit)) ⌝ }
     ensures least { λ r. ⌜ ((m : ℕ) → Least (system (now (set .entry)) m (parts-of (now (parts .entry))) (before (now (order .entry))) (curve (now (rule .entry)))) part (as-long limit) r) ⌝ }
 {

@@ -24,7 +24,12 @@ const ROOM: usize = 2048;
 // The plan of the tasks on the sheet, under rate-monotonic order and spaced arrivals.
 fn plan_of_sheet(bytes: &[u8]) -> Result<Proposal, PlanFault> {
     let sheet = read_task_sheet(bytes)?;
-    plan(&sheet.set, sheet.processors, &RateMonotonic, &Spaced::new(&sheet.set))
+    plan(
+        &sheet.set,
+        sheet.processors,
+        &RateMonotonic,
+        &Spaced::new(&sheet.set),
+    )
 }
 
 // Writes the plan sheet to the buffer, and answers its length.

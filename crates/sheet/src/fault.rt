@@ -37,9 +37,21 @@ impl SheetFault {
         ensures { λ r. ⌜ r ≡ shown (now (self .entry)) ⌝ }
     {
         match *self {
-            SheetFault::Overlong => Refusal { layer: 'S', number: 1, place: 4096 },
-            SheetFault::Misspelt { at } => Refusal { layer: 'S', number: 2, place: at as u64 },
-            SheetFault::OffScale { at } => Refusal { layer: 'S', number: 3, place: at as u64 },
+            SheetFault::Overlong => Refusal {
+                layer: 'S',
+                number: 1,
+                place: 4096,
+            },
+            SheetFault::Misspelt { at } => Refusal {
+                layer: 'S',
+                number: 2,
+                place: at as u64,
+            },
+            SheetFault::OffScale { at } => Refusal {
+                layer: 'S',
+                number: 3,
+                place: at as u64,
+            },
         }
     }
 }

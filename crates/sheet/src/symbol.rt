@@ -14,6 +14,7 @@ pub enum Symbol {
     Slash,
     Space,
     LineFeed,
+    // a byte that is not allowed there
     Other,
 }
 

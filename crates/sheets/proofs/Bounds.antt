@@ -1,15 +1,14 @@
 -- What is read is within its limits, and there is as much of it as there should be.
-use mathlib.Core.Bool.{Bool, true, false, cond}
-use mathlib.Core.List.{List, [], _∷_, _++_}
-use mathlib.Core.Path.{_≡_, refl, sym, ap, subst, _∙_}
+use mathlib.Core.List.{List, [], _∷_}
+use mathlib.Core.Path.{_≡_, refl, ap, subst}
 use native.Mathlib.Omega.{arith}
-use Prim.Native.Nat.{ℕ, zero, suc, _+_, _-_, _<_, _≤_}
+use Prim.Native.Nat.{ℕ, zero, suc, _-_, _<_, _≤_}
 use lib.ListN.{length, getD, take}
 use Rattle.std.proofs.shelf.Lists.{getD-take}
 use Rattle.sheet.specs.declared.symbol.Limits.{Limits}
 use Rattle.sheet.specs.declared.symbol.Stop.{Stop}
-use Rattle.sheet.specs.declared.symbol.Stop.the-variants.{Slash, Space, LineFeed}
-use Rattle.sheet.specs.Reading.{Read, got, bad, next, expected, number}
+use Rattle.sheet.specs.declared.symbol.Stop.the-variants.{Slash}
+use Rattle.sheet.specs.Reading.{got, expected, number}
 use Rattle.sheet.proofs.Scale.{next-both, number-within}
 use Rattle.sheets.specs.declared.lines.Pair.{Pair}
 use Rattle.sheets.specs.Grammar.{limits, ticks, numbers, pair, pairs, none, stop-before, number-line, pair-line}

@@ -1,15 +1,15 @@
 -- A text that grows, and how long it gets.
-use mathlib.Core.Bool.{Bool, true, false, cond, _&&_}
+use mathlib.Core.Bool.{true}
 use mathlib.Core.List.{List, [], _∷_, _++_}
-use mathlib.Core.Path.{_≡_, refl, sym, ap, subst, _∙_}
+use mathlib.Core.Path.{_≡_, refl, sym, ap, _∙_}
 use native.Mathlib.Omega.{arith}
-use Prim.Native.Nat.{ℕ, zero, suc, _+_, _-_, _*_, _/_, _%_, _^_, _≤_, _<_}
+use Prim.Native.Nat.{ℕ, zero, suc, _+_, _-_, _*_, _/_, _%_, _≤_, _<_}
 use lib.Dec.{leb}
 use lib.ListN.{length, getD, take, set}
 use Rattle.std.proofs.shelf.Lists.{length-take-le, take-more-set, length-append, append-assoc, append-nil, take-all}
-use Rattle.std.proofs.shelf.Decimals.{decimal-digit, decimal-step, length-decimal-le}
+use Rattle.sheet.proofs.Numerals.{numeral-digit, numeral-step, numeral-short}
 use Rattle.std.proofs.shelf.Tests.{and-parts, leb-true}
-use Rattle.std.specs.Written.{decimal}
+use Rattle.sheet.specs.Numerals.{numeral}
 use Rattle.schedule.specs.declared.Part.{Part}
 use Rattle.sheets.specs.declared.text.Text.{Text}
 use Rattle.sheets.specs.Texts.{text-of, pair-text, place-text, amounts-text, items-text, listed, plan-text, writable, on-scale, no-part}
@@ -25,40 +25,40 @@ pub grown : (new old more : List ℕ) → new ≡ old ++ more → length new ≡
 grown new old more e = ap length e ∙ length-append old more
 
 -- The digits of a number.
-pub decimal-one : (n : ℕ) → n < 10 → length (decimal n) ≡ 1
-decimal-one n h = ap length (decimal-digit n h)
+pub numeral-one : (n : ℕ) → n < 10 → length (numeral n) ≡ 1
+numeral-one n h = ap length (numeral-digit n h)
 
-step : (n : ℕ) → 10 ≤ n → n < 1000000 → decimal n ≡ decimal (n / 10) ++ ((48 + n % 10) ∷ [])
-step n h k = decimal-step n h (omega arith)
+step : (n : ℕ) → 10 ≤ n → n < 1000000 → numeral n ≡ numeral (n / 10) ++ ((48 + n % 10) ∷ [])
+step n h k = numeral-step n h k
 
-pub decimal-longer : (n : ℕ) → 10 ≤ n → n < 1000000 → length (decimal n) ≡ length (decimal (n / 10)) + 1
-decimal-longer n h k = ap length (step n h k) ∙ length-append (decimal (n / 10)) ((48 + n % 10) ∷ [])
+pub numeral-longer : (n : ℕ) → 10 ≤ n → n < 1000000 → length (numeral n) ≡ length (numeral (n / 10)) + 1
+numeral-longer n h k = ap length (step n h k) ∙ length-append (numeral (n / 10)) ((48 + n % 10) ∷ [])
 
-pub by-digits : (t₀ t₁ t₂ t₃ : List ℕ) (n : ℕ) → 10 ≤ n → n < 1000000 → t₁ ≡ t₀ ++ decimal (n / 10) → t₂ ≡ t₁ → t₃ ≡ t₂ ++ ((48 + n % 10) ∷ [])
-  → t₃ ≡ t₀ ++ decimal n
+pub by-digits : (t₀ t₁ t₂ t₃ : List ℕ) (n : ℕ) → 10 ≤ n → n < 1000000 → t₁ ≡ t₀ ++ numeral (n / 10) → t₂ ≡ t₁ → t₃ ≡ t₂ ++ ((48 + n % 10) ∷ [])
+    → t₃ ≡ t₀ ++ numeral n
 by-digits t₀ t₁ t₂ t₃ n h k a b c =
-    c ∙ ap (λ (l : List ℕ). l ++ ((48 + n % 10) ∷ [])) (b ∙ a) ∙ append-assoc t₀ (decimal (n / 10)) ((48 + n % 10) ∷ [])
+    c ∙ ap (λ (l : List ℕ). l ++ ((48 + n % 10) ∷ [])) (b ∙ a) ∙ append-assoc t₀ (numeral (n / 10)) ((48 + n % 10) ∷ [])
     ∙ ap (λ (l : List ℕ). t₀ ++ l) (sym (step n h k))
 
-pub by-digit : (t₀ t₁ t₂ : List ℕ) (n : ℕ) → n < 10 → t₁ ≡ t₀ → t₂ ≡ t₁ ++ ((48 + n % 10) ∷ []) → t₂ ≡ t₀ ++ decimal n
+pub by-digit : (t₀ t₁ t₂ : List ℕ) (n : ℕ) → n < 10 → t₁ ≡ t₀ → t₂ ≡ t₁ ++ ((48 + n % 10) ∷ []) → t₂ ≡ t₀ ++ numeral n
 by-digit t₀ t₁ t₂ n h a b =
     let e : n % 10 ≡ n = omega arith in
     b ∙ ap (λ (l : List ℕ). l ++ ((48 + n % 10) ∷ [])) a ∙ ap (λ (m : ℕ). t₀ ++ ((48 + m) ∷ [])) e
-    ∙ ap (λ (l : List ℕ). t₀ ++ l) (sym (decimal-digit n h))
+    ∙ ap (λ (l : List ℕ). t₀ ++ l) (sym (numeral-digit n h))
 
-pub pair-length : (l r : ℕ) → length (pair-text l r) ≡ length (decimal l) + (1 + length (decimal r))
-pair-length l r = length-append (decimal l) (47 ∷ decimal r) ∙ omega arith
+pub pair-length : (l r : ℕ) → length (pair-text l r) ≡ length (numeral l) + (1 + length (numeral r))
+pair-length l r = length-append (numeral l) (47 ∷ numeral r) ∙ omega arith
 
 pub by-pair : (t₀ t₁ t₂ t₃ t₄ a b : List ℕ) (x y : ℕ) → t₁ ≡ t₀ ++ (x ∷ []) → t₂ ≡ t₁ ++ a → t₃ ≡ t₂ ++ (y ∷ []) → t₄ ≡ t₃ ++ b
-  → t₄ ≡ t₀ ++ (x ∷ (a ++ (y ∷ b)))
+    → t₄ ≡ t₀ ++ (x ∷ (a ++ (y ∷ b)))
 by-pair t₀ t₁ t₂ t₃ t₄ a b x y e₁ e₂ e₃ e₄ = rw (e₄, e₃, e₂, e₁) (simp append-assoc)
 
 pub by-count : (t₀ t₁ t₂ t₃ t₄ a : List ℕ) (x y z : ℕ) → t₁ ≡ t₀ ++ (x ∷ []) → t₂ ≡ t₁ ++ (y ∷ []) → t₃ ≡ t₂ ++ a → t₄ ≡ t₃ ++ (z ∷ [])
-  → t₄ ≡ t₀ ++ (x ∷ y ∷ (a ++ (z ∷ [])))
+    → t₄ ≡ t₀ ++ (x ∷ y ∷ (a ++ (z ∷ [])))
 by-count t₀ t₁ t₂ t₃ t₄ a x y z e₁ e₂ e₃ e₄ = rw (e₄, e₃, e₂, e₁) (simp append-assoc)
 
-pub count-length : (n : ℕ) → n ≤ 64 → length (decimal n) ≤ 2
-count-length n h = length-decimal-le 2 n (omega arith) (omega arith) (omega arith)
+pub count-length : (n : ℕ) → n ≤ 64 → length (numeral n) ≤ 2
+count-length n h = numeral-short 2 n (omega arith) (omega arith) (omega arith)
 
 -- What a part that a sheet can hold is made of.
 pub record Small (p : Part) : Type 0 where
@@ -80,11 +80,11 @@ small p e =
 
 length-place : (p : Part) → Small p → length (place-text p) ≤ 4
 length-place p s =
-    omega (arith, pair-length (p .task) (p .processor), length-decimal-le 2 (p .task) (omega arith) (omega arith) (omega arith), length-decimal-le 1 (p .processor) (omega arith) (omega arith) (omega arith))
+    omega (arith, pair-length (p .task) (p .processor), numeral-short 2 (p .task) (omega arith) (omega arith) (omega arith), numeral-short 1 (p .processor) (omega arith) (omega arith) (omega arith))
 
 length-amounts : (p : Part) → Small p → length (amounts-text p) ≤ 13
 length-amounts p s =
-    omega (arith, pair-length (p .cost) (p .window), length-decimal-le 6 (p .cost) (omega arith) (omega arith) (omega arith), length-decimal-le 6 (p .window) (omega arith) (omega arith) (omega arith))
+    omega (arith, pair-length (p .cost) (p .window), numeral-short 6 (p .cost) (omega arith) (omega arith) (omega arith), numeral-short 6 (p .window) (omega arith) (omega arith) (omega arith))
 
 pub place-short : (p : Part) → writable p ≡ true → length (32 ∷ place-text p) ≤ 5
 place-short p e = omega (arith, length-place p (small p e))
@@ -108,13 +108,13 @@ items-listed f (p ∷ ps) = ap (λ (l : List ℕ). 32 ∷ (f p ++ l)) (items-lis
 
 -- A line after one item more, and at its end.
 pub line-more : (f : Part → List ℕ) (ps : List Part) (i : ℕ) (base t t′ : List ℕ) → i < length ps → t ≡ base ++ listed f (take i ps)
-  → t′ ≡ t ++ (32 ∷ f (getD ps i no-part)) → t′ ≡ base ++ listed f (take (i + 1) ps)
+    → t′ ≡ t ++ (32 ∷ f (getD ps i no-part)) → t′ ≡ base ++ listed f (take (i + 1) ps)
 line-more f ps i base t t′ h e e′ =
     e′ ∙ ap (λ (l : List ℕ). l ++ (32 ∷ f (getD ps i no-part))) e ∙ append-assoc base (listed f (take i ps)) (32 ∷ f (getD ps i no-part))
     ∙ ap (λ (l : List ℕ). base ++ l) (sym (listed-more f ps i h))
 
 pub line-all : (f : Part → List ℕ) (ps : List Part) (i x : ℕ) (t₀ t₁ t₂ t₃ : List ℕ) → length ps ≤ i → t₁ ≡ t₀ ++ (x ∷ []) → t₂ ≡ t₁ ++ listed f (take i ps)
-  → t₃ ≡ t₂ ++ (10 ∷ []) → t₃ ≡ t₀ ++ (x ∷ items-text f ps)
+    → t₃ ≡ t₂ ++ (10 ∷ []) → t₃ ≡ t₀ ++ (x ∷ items-text f ps)
 line-all f ps i x t₀ t₁ t₂ t₃ h e₁ e₂ e₃ =
     e₃ ∙ ap (λ (l : List ℕ). l ++ (10 ∷ [])) e₂ ∙ append-assoc t₁ (listed f (take i ps)) (10 ∷ [])
     ∙ ap (λ (l : List Part). t₁ ++ (listed f l ++ (10 ∷ []))) (take-all i ps h)
@@ -129,8 +129,8 @@ pub amounts-room : (p : Part) (len : ℕ) → writable p ≡ true → len + 14 �
 amounts-room p len e h = let s = small p e in (omega (arith, s .cost), (omega (arith, s .window), omega (arith, amounts-short p e, h)))
 
 -- How long the lines are.
-pub count-line-short : (n : ℕ) → n ≤ 64 → length (75 ∷ 32 ∷ (decimal n ++ (10 ∷ []))) ≤ 5
-count-line-short n h = omega (arith, length-append (decimal n) (10 ∷ []), count-length n h)
+pub count-line-short : (n : ℕ) → n ≤ 64 → length (75 ∷ 32 ∷ (numeral n ++ (10 ∷ []))) ≤ 5
+count-line-short n h = omega (arith, length-append (numeral n) (10 ∷ []), count-length n h)
 
 pub places-line-short : (ps : List Part) → ((i : ℕ) → i < length ps → writable (getD ps i no-part) ≡ true) → length (items-text place-text ps) ≤ 5 * length ps + 1
 places-line-short [] w = omega arith
@@ -143,6 +143,6 @@ amounts-line-short (p ∷ ps) w =
     omega (arith, length-append (amounts-text p) (items-text amounts-text ps), length-amounts p (small p (w 0 (omega arith))), amounts-line-short ps (λ i h. w (suc i) (omega arith)))
 
 -- The three lines are the text of the plan.
-pub by-lines : (ps : List Part) (t₀ t₁ t₂ t₃ : List ℕ) → t₀ ≡ [] → t₁ ≡ t₀ ++ (75 ∷ 32 ∷ (decimal (length ps) ++ (10 ∷ []))) → t₂ ≡ t₁ ++ (80 ∷ items-text place-text ps)
-  → t₃ ≡ t₂ ++ (65 ∷ items-text amounts-text ps) → t₃ ≡ plan-text ps
+pub by-lines : (ps : List Part) (t₀ t₁ t₂ t₃ : List ℕ) → t₀ ≡ [] → t₁ ≡ t₀ ++ (75 ∷ 32 ∷ (numeral (length ps) ++ (10 ∷ []))) → t₂ ≡ t₁ ++ (80 ∷ items-text place-text ps)
+    → t₃ ≡ t₂ ++ (65 ∷ items-text amounts-text ps) → t₃ ≡ plan-text ps
 by-lines ps t₀ t₁ t₂ t₃ e₀ e₁ e₂ e₃ = rw (e₃, e₂, e₁, e₀) (simp append-assoc)

@@ -1,17 +1,14 @@
 -- The lines of whole sheets, one after another.
-use mathlib.Core.Bool.{Bool, true, false, cond}
-use mathlib.Core.List.{List, [], _∷_, _++_}
+use mathlib.Core.List.{List, [], _∷_}
 use mathlib.Core.Path.{_≡_, refl, sym, ap, ap₂, subst, _∙_}
 use native.Mathlib.Omega.{arith}
-use Prim.Native.Nat.{ℕ, zero, suc, _+_, _-_, _<_, _≤_}
+use Prim.Native.Nat.{ℕ, zero, suc, _-_, _<_, _≤_}
 use lib.ListN.{length, getD, take, replicate}
 use Rattle.std.proofs.shelf.Lists.{getD-take, length-replicate}
 use Rattle.schedule.specs.declared.Part.{Part}
-use Rattle.sheet.specs.declared.fault.SheetFault.{SheetFault}
-use Rattle.sheet.specs.declared.fault.SheetFault.the-variants.{Overlong, Misspelt}
-use Rattle.sheet.specs.Reading.{Read, got, bad, next, opened, ended}
+use Rattle.sheet.specs.declared.fault.SheetFault.the-variants.{Overlong}
+use Rattle.sheet.specs.Reading.{Read, got, next, opened, ended}
 use Rattle.sheet.proofs.Scale.{next-both}
-use Rattle.std.specs.declared.result.Result.{Result}
 use Rattle.std.specs.declared.result.Result.the-variants.{Ok, Err}
 use Rattle.std.proofs.shelf.Tests.{cases-bool}
 use mathlib.Core.Logic.{inl, inr}
@@ -19,7 +16,7 @@ use lib.Dec.{ltb}
 use Rattle.sheets.specs.declared.lines.Pair.{Pair}
 use Rattle.sheets.specs.Grammar.{Tasks, limits, ticks, none, whole, closed, number-line, pair-line, task-lines, plan-lines, both-lines, both-sheets, assembled}
 use Rattle.sheets.proofs.Bounds.{first-fits, part-count-fits, places-fit, amounts-fit, fit-pairs-length, fit-pairs-at}
-use Rattle.sheets.proofs.Items.{next-got, next-bad}
+use Rattle.sheets.proofs.Items.{next-got}
 
 module _ (at : ℕ) (xs a : List ℕ) (at₁ : ℕ) (xs₁ : List ℕ) (T : number-line 84 0 at xs ≡ got (take 2 a) at₁ xs₁) where
   abbrev count : ℕ
@@ -28,55 +25,18 @@ module _ (at : ℕ) (xs a : List ℕ) (at₁ : ℕ) (xs₁ : List ℕ) (T : numb
   count-is : count ≡ getD a 0 0
   count-is = getD-take 2 a 0 0 (omega arith)
 
-  pub no-periods : (f : SheetFault) → number-line 80 (getD a 0 0) at₁ xs₁ ≡ bad f → task-lines at xs ≡ bad f
-  no-periods f k =
-      next-got (number-line 84 0 at xs) _ (take 2 a) at₁ xs₁ T
-      ∙ next-bad (number-line 80 count at₁ xs₁) _ f (ap (λ (n : ℕ). number-line 80 n at₁ xs₁) count-is ∙ k)
-
   module _ (ps : List ℕ) (at₂ : ℕ) (xs₂ : List ℕ) (P : number-line 80 (getD a 0 0) at₁ xs₁ ≡ got ps at₂ xs₂) where
     up-to-periods : task-lines at xs ≡ next (number-line 67 count at₂ xs₂) (λ cs at xs. got (record { processors = getD (take 2 a) 1 0; periods = ps; costs = cs }) at xs)
     up-to-periods =
         next-got (number-line 84 0 at xs) _ (take 2 a) at₁ xs₁ T
         ∙ next-got (number-line 80 count at₁ xs₁) _ ps at₂ xs₂ (ap (λ (n : ℕ). number-line 80 n at₁ xs₁) count-is ∙ P)
 
-    pub no-costs : (f : SheetFault) → number-line 67 (getD a 0 0) at₂ xs₂ ≡ bad f → task-lines at xs ≡ bad f
-    no-costs f k =
-        up-to-periods ∙ next-bad (number-line 67 count at₂ xs₂) _ f (ap (λ (n : ℕ). number-line 67 n at₂ xs₂) count-is ∙ k)
-
-    pub all-tasks : (cs : List ℕ) (at₃ : ℕ) (xs₃ : List ℕ) → number-line 67 (getD a 0 0) at₂ xs₂ ≡ got cs at₃ xs₃
-      → task-lines at xs ≡ got (record { processors = getD a 1 0; periods = ps; costs = cs }) at₃ xs₃
+    all-tasks : (cs : List ℕ) (at₃ : ℕ) (xs₃ : List ℕ) → number-line 67 (getD a 0 0) at₂ xs₂ ≡ got cs at₃ xs₃
+        → task-lines at xs ≡ got (record { processors = getD a 1 0; periods = ps; costs = cs }) at₃ xs₃
     all-tasks cs at₃ xs₃ k =
         up-to-periods
         ∙ next-got (number-line 67 count at₂ xs₂) _ cs at₃ xs₃ (ap (λ (n : ℕ). number-line 67 n at₂ xs₂) count-is ∙ k)
         ∙ ap (λ (m : ℕ). got (record { processors = m; periods = ps; costs = cs }) at₃ xs₃) (getD-take 2 a 1 0 (omega arith))
-
-module _ (at : ℕ) (xs a : List ℕ) (at₁ : ℕ) (xs₁ : List ℕ) (K : number-line 75 0 at xs ≡ got (take 1 a) at₁ xs₁) where
-  abbrev parts : ℕ
-  parts = getD (take 1 a) 0 0
-
-  parts-is : parts ≡ getD a 0 0
-  parts-is = getD-take 1 a 0 0 (omega arith)
-
-  pub no-places : (f : SheetFault) → pair-line 80 (getD a 0 0) at₁ xs₁ ≡ bad f → plan-lines at xs ≡ bad f
-  no-places f k =
-      next-got (number-line 75 0 at xs) _ (take 1 a) at₁ xs₁ K
-      ∙ next-bad (pair-line 80 parts at₁ xs₁) _ f (ap (λ (n : ℕ). pair-line 80 n at₁ xs₁) parts-is ∙ k)
-
-  module _ (ps : List Pair) (at₂ : ℕ) (xs₂ : List ℕ) (P : pair-line 80 (getD a 0 0) at₁ xs₁ ≡ got ps at₂ xs₂) where
-    up-to-places : plan-lines at xs ≡ next (pair-line 65 parts at₂ xs₂) (λ qs at xs. got (assembled ps qs) at xs)
-    up-to-places =
-        next-got (number-line 75 0 at xs) _ (take 1 a) at₁ xs₁ K
-        ∙ next-got (pair-line 80 parts at₁ xs₁) _ ps at₂ xs₂ (ap (λ (n : ℕ). pair-line 80 n at₁ xs₁) parts-is ∙ P)
-
-    pub no-amounts : (f : SheetFault) → pair-line 65 (getD a 0 0) at₂ xs₂ ≡ bad f → plan-lines at xs ≡ bad f
-    no-amounts f k =
-        up-to-places ∙ next-bad (pair-line 65 parts at₂ xs₂) _ f (ap (λ (n : ℕ). pair-line 65 n at₂ xs₂) parts-is ∙ k)
-
-    pub all-parts : (qs : List Pair) (at₃ : ℕ) (xs₃ : List ℕ) → pair-line 65 (getD a 0 0) at₂ xs₂ ≡ got qs at₃ xs₃
-      → plan-lines at xs ≡ got (assembled ps qs) at₃ xs₃
-    all-parts qs at₃ xs₃ k =
-        up-to-places
-        ∙ next-got (pair-line 65 parts at₂ xs₂) _ qs at₃ xs₃ (ap (λ (n : ℕ). pair-line 65 n at₂ xs₂) parts-is ∙ k)
 
 -- As many numbers as there are tasks.
 take-ticks : (n : ℕ) (a : List ℕ) → take (length (replicate n ticks)) a ≡ take n a
@@ -84,9 +44,9 @@ take-ticks n a = ap (λ (k : ℕ). take k a) (length-replicate n ticks)
 
 -- The lines of a task sheet, in the arrays that they are read into.
 pub tasks-read : (at : ℕ) (xs a : List ℕ) (at₁ : ℕ) (xs₁ : List ℕ) → number-line 84 0 at xs ≡ got (take 2 a) at₁ xs₁
-  → (p : List ℕ) (at₂ : ℕ) (xs₂ : List ℕ) → number-line 80 (getD a 0 0) at₁ xs₁ ≡ got (take (length (replicate (getD a 0 0) ticks)) p) at₂ xs₂
-  → (q : List ℕ) (at₃ : ℕ) (xs₃ : List ℕ) → number-line 67 (getD a 0 0) at₂ xs₂ ≡ got (take (length (replicate (getD a 0 0) ticks)) q) at₃ xs₃
-  → task-lines at xs ≡ got (record { processors = getD a 1 0; periods = take (getD a 0 0) p; costs = take (getD a 0 0) q }) at₃ xs₃
+    → (p : List ℕ) (at₂ : ℕ) (xs₂ : List ℕ) → number-line 80 (getD a 0 0) at₁ xs₁ ≡ got (take (length (replicate (getD a 0 0) ticks)) p) at₂ xs₂
+    → (q : List ℕ) (at₃ : ℕ) (xs₃ : List ℕ) → number-line 67 (getD a 0 0) at₂ xs₂ ≡ got (take (length (replicate (getD a 0 0) ticks)) q) at₃ xs₃
+    → task-lines at xs ≡ got (record { processors = getD a 1 0; periods = take (getD a 0 0) p; costs = take (getD a 0 0) q }) at₃ xs₃
 tasks-read at xs a at₁ xs₁ T p at₂ xs₂ P q at₃ xs₃ C =
     all-tasks at xs a at₁ xs₁ T (take (getD a 0 0) p) at₂ xs₂
     (P ∙ ap (λ (l : List ℕ). got l at₂ xs₂) (take-ticks (getD a 0 0) p))
@@ -95,9 +55,9 @@ tasks-read at xs a at₁ xs₁ T p at₂ xs₂ P q at₃ xs₃ C =
 
 -- Places and amounts that are read can be made into parts.
 pub assembles : (n at : ℕ) (xs : List ℕ) (p : List Pair) (at₁ : ℕ) (xs₁ : List ℕ) → pair-line 80 n at xs ≡ got (take n p) at₁ xs₁
-  → (q : List Pair) (at₂ : ℕ) (xs₂ : List ℕ) → pair-line 65 n at₁ xs₁ ≡ got (take n q) at₂ xs₂ → n ≤ 64
-  → (length (take (n - 0) q) ≡ length (take (n - 0) p)) × ((length (take (n - 0) p) ≤ 64)
-  × ((i : ℕ) → i < length (take (n - 0) p) → (getD (take (n - 0) p) i none .left < 256) × (getD (take (n - 0) p) i none .right < 256)))
+    → (q : List Pair) (at₂ : ℕ) (xs₂ : List ℕ) → pair-line 65 n at₁ xs₁ ≡ got (take n q) at₂ xs₂ → n ≤ 64
+    → (length (take (n - 0) q) ≡ length (take (n - 0) p)) × ((length (take (n - 0) p) ≤ 64)
+    × ((i : ℕ) → i < length (take (n - 0) p) → (getD (take (n - 0) p) i none .left < 256) × (getD (take (n - 0) p) i none .right < 256)))
 assembles n at xs p at₁ xs₁ P q at₂ xs₂ A h =
     let e : n - 0 ≡ n = omega arith in
     let a = places-fit n at xs (take n p) at₁ xs₁ P in
@@ -105,12 +65,18 @@ assembles n at xs p at₁ xs₁ P q at₂ xs₂ A h =
     let la = fit-pairs-length (limits 0 31) (limits 0 7) n (take n p) a in
     let lb = fit-pairs-length ticks ticks n (take n q) b in
     subst (λ (m : ℕ). (length (take m q) ≡ length (take m p)) × ((length (take m p) ≤ 64)
-    × ((i : ℕ) → i < length (take m p) → (getD (take m p) i none .left < 256) × (getD (take m p) i none .right < 256)))) (sym e)
-    (lb ∙ sym la, (omega arith, λ i k.
-      let w = fit-pairs-at (limits 0 31) (limits 0 7) n (take n p) a i (omega (arith, k, la)) in
-      (omega (arith, w .0 .1), omega (arith, w .1 .1))))
+    × ((i : ℕ) → i < length (take m p) → (getD (take m p) i none .left < 256) × (getD (take m p) i none .right < 256)))) (sym e) (
+      lb ∙ sym la,
+      (
+        omega arith,
+        λ i k.
+            let w = fit-pairs-at (limits 0 31) (limits 0 7) n (take n p) a i (omega (arith, k, la)) in
+            (omega (arith, w .0 .1), omega (arith, w .1 .1)),
+      ),
+    )
 
-assembled-length : (n : ℕ) (ps qs : List Pair) → length ps ≡ n → length qs ≡ n → length (assembled ps qs) ≡ n
+-- As many parts as places and amounts.
+pub assembled-length : (n : ℕ) (ps qs : List Pair) → length ps ≡ n → length qs ≡ n → length (assembled ps qs) ≡ n
 assembled-length n [] qs h k = h
 assembled-length n (p ∷ ps) [] h k = k
 assembled-length zero (p ∷ ps) (q ∷ qs) h k = absurd (omega (arith, h))
@@ -131,31 +97,22 @@ plan-count at xs ps at′ xs′ h =
     subst (λ (z : List Part). (1 ≤ length z) × (length z ≤ 64)) e (omega (arith, l, w .0), omega (arith, l, w .1))
 
 -- A whole input.
-pub too-long : {A : Type 0} (reader : ℕ → List ℕ → Read A) (bytes : List ℕ) (e : SheetFault) → Err e ≡ opened bytes → whole reader bytes ≡ Err e
-too-long reader bytes e h =
-    elim (cases-bool (ltb 4096 (length bytes))) [
-      inl t ↦ rw t (let k : Err e ≡ Err Overlong = rw t at h in cc)
-    | inr t ↦ let k : Err e ≡ Ok (length bytes) = rw t at h in let z : _≡_ {A = ℕ} 0 1 = cc in absurd (omega arith) ]
-
 pub not-too-long : {A : Type 0} (reader : ℕ → List ℕ → Read A) (bytes : List ℕ) (n : ℕ) → Ok n ≡ opened bytes → whole reader bytes ≡ closed (reader 0 bytes)
 not-too-long reader bytes n h =
     elim (cases-bool (ltb 4096 (length bytes))) [
-      inl t ↦ let k : Ok n ≡ Err Overlong = rw t at h in let z : _≡_ {A = ℕ} 0 1 = cc in absurd (omega arith)
-    | inr t ↦ rw t refl ]
+      | inl t ↦ let k : Ok n ≡ Err Overlong = rw t at h in let z : _≡_ {A = ℕ} 0 1 = cc in absurd (omega arith)
+      | inr t ↦ rw t refl
+    ]
 
 pub closed-here : {A : Type 0} (x : A) (at : ℕ) (xs : List ℕ) (u : Unit {0}) → Ok u ≡ ended at xs → closed (got x at xs) ≡ Ok x
 closed-here x at [] u h = refl
 closed-here x at (b ∷ bs) u h = let z : _≡_ {A = ℕ} 0 1 = cc in absurd (omega arith)
 
-pub open-here : {A : Type 0} (x : A) (at : ℕ) (xs : List ℕ) (e : SheetFault) → Err e ≡ ended at xs → closed (got x at xs) ≡ Err e
-open-here x at [] e h = let z : _≡_ {A = ℕ} 0 1 = cc in absurd (omega arith)
-open-here x at (b ∷ bs) e h = cc
-
 -- Both sheets, read to the end.
 pub both-read : (bytes : List ℕ) (at₀ : ℕ) (xs₀ : List ℕ) → at₀ ≡ 0 → xs₀ ≡ bytes
-  → (t : Tasks) (at₁ : ℕ) (xs₁ : List ℕ) → task-lines at₀ xs₀ ≡ got t at₁ xs₁
-  → (ps : List Part) (at₂ : ℕ) (xs₂ : List ℕ) → plan-lines at₁ xs₁ ≡ got ps at₂ xs₂
-  → (n : ℕ) → Ok n ≡ opened bytes → (u : Unit {0}) → Ok u ≡ ended at₂ xs₂ → Ok (t, ps) ≡ both-sheets bytes
+    → (t : Tasks) (at₁ : ℕ) (xs₁ : List ℕ) → task-lines at₀ xs₀ ≡ got t at₁ xs₁
+    → (ps : List Part) (at₂ : ℕ) (xs₂ : List ℕ) → plan-lines at₁ xs₁ ≡ got ps at₂ xs₂
+    → (n : ℕ) → Ok n ≡ opened bytes → (u : Unit {0}) → Ok u ≡ ended at₂ xs₂ → Ok (t, ps) ≡ both-sheets bytes
 both-read bytes at₀ xs₀ a b t at₁ xs₁ T ps at₂ xs₂ P n o u e =
     sym (not-too-long both-lines bytes n o
     ∙ ap₂ (λ (at : ℕ) (xs : List ℕ). closed (both-lines at xs)) (sym a) (sym b)

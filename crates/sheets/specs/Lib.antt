@@ -1,3 +1,5 @@
 pub mod Grammar
 pub mod Answers
 pub mod Texts
+pub mod Laws
+pub mod Refusals

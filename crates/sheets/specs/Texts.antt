@@ -1,9 +1,8 @@
 -- The text of a plan: what is written of it.
-use mathlib.Core.Bool.{Bool, cond, not, _&&_, _||_}
+use mathlib.Core.Bool.{Bool, cond, not, _&&_}
 use mathlib.Core.List.{List, [], _∷_, _++_}
-use mathlib.Core.Path.{_≡_}
-use Prim.Native.Nat.{ℕ, zero, suc}
-use lib.Dec.{eqb, leb, ltb}
+use Prim.Native.Nat.{ℕ}
+use lib.Dec.{leb, ltb}
 use lib.ListN.{length, take, drop, getD}
 use Rattle.std.specs.declared.option.Option.{Option}
 use Rattle.std.specs.declared.option.Option.the-variants.{Some, None}
@@ -12,16 +11,17 @@ use Rattle.std.specs.declared.result.Result.the-variants.{Ok, Err}
 use Rattle.tasks.specs.Searches.{first-where}
 use Rattle.plan.specs.declared.fault.PlanFault.{PlanFault}
 use Rattle.plan.specs.declared.fault.PlanFault.the-variants.{OffScale, Cramped}
-use Rattle.std.specs.Written.{decimal}
+use Rattle.sheet.specs.Numerals.{numeral}
 use Rattle.schedule.specs.declared.Part.{Part}
 use Rattle.sheets.specs.declared.text.Text.{Text}
+use Rattle.sheets.specs.Grammar.{Tasks}
 
 abbrev pub text-of : Text → List ℕ
 text-of t = take (t .count) (t .bytes)
 
 -- Two numbers with a slash between them.
 abbrev pub pair-text : ℕ → ℕ → List ℕ
-pair-text left right = decimal left ++ (47 ∷ decimal right)
+pair-text left right = numeral left ++ (47 ∷ numeral right)
 
 -- Where a part runs: its task and its processor.
 abbrev pub place-text : Part → List ℕ
@@ -32,7 +32,7 @@ abbrev pub amounts-text : Part → List ℕ
 amounts-text p = pair-text (p .cost) (p .window)
 
 -- The items of a line after its letter: each follows a space, and a line feed ends them.
-abbrev pub items-text : (Part → List ℕ) → List Part → List ℕ
+abbrev pub items-text : {A : Type 0} → (A → List ℕ) → List A → List ℕ
 items-text f [] = 10 ∷ []
 items-text f (p ∷ ps) = 32 ∷ (f p ++ items-text f ps)
 
@@ -44,7 +44,7 @@ listed f (p ∷ ps) = 32 ∷ (f p ++ listed f ps)
 -- The text of a plan: the count of its parts, their places, and their amounts.
 abbrev pub plan-text : List Part → List ℕ
 plan-text ps =
-    75 ∷ 32 ∷ (decimal (length ps) ++ (10 ∷ 80 ∷ (items-text place-text ps ++ (65 ∷ items-text amounts-text ps))))
+    75 ∷ 32 ∷ (numeral (length ps) ++ (10 ∷ 80 ∷ (items-text place-text ps ++ (65 ∷ items-text amounts-text ps))))
 
 -- Ticks that a sheet can hold.
 abbrev pub on-scale : ℕ → Bool
@@ -77,3 +77,9 @@ written ps room = written-or (first-where (unwritable ps) (length ps)) (fitted (
 abbrev pub left-in : Result ℕ PlanFault → List ℕ → List ℕ → List ℕ
 left-in (Ok n) text old = text ++ drop n old
 left-in (Err f) text old = old
+
+-- The text of a task sheet: the counts of tasks and processors, the periods, and the costs.
+abbrev pub task-text : Tasks → List ℕ
+task-text t =
+    84 ∷ (items-text numeral (length (t .periods) ∷ t .processors ∷ [])
+    ++ (80 ∷ (items-text numeral (t .periods) ++ (67 ∷ items-text numeral (t .costs)))))

@@ -4,9 +4,9 @@ use tasks::set::TaskSet;
 mod drafts;
 mod lines;
 pub mod reading;
-mod text;
 #[cfg(test)]
 mod tests;
+mod text;
 pub mod writing;
 
 // What a task sheet says: the tasks, and how many processors there are.

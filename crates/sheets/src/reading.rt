@@ -7,6 +7,11 @@ ghost use Rattle.std.specs.Vec.{made};
 ghost use Rattle.plan.specs.Parts.{plan-of, parts-of};
 ghost use Rattle.sheets.specs.Answers.{drafted, Read-tasks, Read-parts, Read-both};
 ghost use Rattle.sheets.specs.Grammar.{task-sheet, plan-sheet, both-sheets};
+ghost use Rattle.sheets.specs.Refusals.{refusal-in, task-refusal, plan-refusal, both-refusal};
+ghost use Rattle.sheet.specs.Faults as Sheets;
+ghost use Rattle.tasks.specs.Faults as Sets;
+ghost use Rattle.plan.specs.Faults as Plans;
+ghost use Rattle.sheets.specs.Laws.{Written-back, Sheets-are-texts, Task-sheets-are-texts, Both-are-texts};
 use crate::TaskSheet;
 use crate::drafts::TaskDraft;
 use crate::drafts::sheets::plan_lines;
@@ -34,22 +39,35 @@ fn task_draft(bytes: &[u8]) -> Result<TaskDraft, SheetFault>
     Ok(draft)
 }
 
-// A task sheet.
+// A task sheet: its bytes are read to the end before a task set is made of them.
 pub fn read_task_sheet(bytes: &[u8]) -> Result<TaskSheet, SetFault>
-    ensures { λ r. ⌜ Read-tasks (task-sheet (now (bytes .entry))) r ⌝ }
+    ensures value { λ r. ⌜ Read-tasks (task-sheet (now (bytes .entry))) r ⌝ }
+    ensures refusal { λ r. ⌜ refusal-in Sets.shown r ≡ task-refusal (now (bytes .entry)) ⌝ }
+    ensures texts { λ _. ⌜ Task-sheets-are-texts ⌝ }
 {
     let draft = task_draft(bytes)?;
     sheet_of(&draft)
 }
 
-// A plan sheet.
-pub fn read_plan_sheet(bytes: &[u8]) -> Result<Proposal, SheetFault>
-    ensures { λ r. ⌜ mapped plan-of (λ e. e) r ≡ plan-sheet (now (bytes .entry)) ⌝ }
+// A whole plan sheet.
+fn plan_list(bytes: &[u8]) -> Result<PartList, SheetFault>
+    ensures { λ r. ⌜ mapped parts-of (λ e. e) r ≡ plan-sheet (now (bytes .entry)) ⌝ }
 {
     length_of(bytes)?;
     let mut cursor = Cursor::new(bytes);
     let list = plan_lines(&mut cursor)?;
     cursor.end()?;
+    Ok(list)
+}
+
+// A plan sheet. What is read would be written back byte for byte.
+pub fn read_plan_sheet(bytes: &[u8]) -> Result<Proposal, SheetFault>
+    ensures value { λ r. ⌜ mapped plan-of (λ e. e) r ≡ plan-sheet (now (bytes .entry)) ⌝ }
+    ensures refusal { λ r. ⌜ refusal-in Sheets.shown r ≡ plan-refusal (now (bytes .entry)) ⌝ }
+    ensures written_back { λ r. ⌜ made r (λ p. Written-back (plan-of p) (now (bytes .entry))) ⌝ }
+    ensures texts { λ _. ⌜ Sheets-are-texts ⌝ }
+{
+    let list = plan_list(bytes)?;
     Ok(propose(list))
 }
 
@@ -66,6 +84,7 @@ fn both_drafts(bytes: &[u8]) -> Result<(TaskDraft, PartList), SheetFault>
     Ok((draft, list))
 }
 
+// The same, with a task set made of the task sheet.
 fn both_sheets(bytes: &[u8]) -> Result<(TaskSheet, PartList), SetFault>
     ensures value { λ r. ⌜ Read-parts (both-sheets (now (bytes .entry))) r ⌝ }
     ensures counted { λ r. ⌜ made r (λ b. (1 ≤ length (parts-of (b .1))) × (length (parts-of (b .1)) ≤ 64)) ⌝ }
@@ -77,7 +96,9 @@ fn both_sheets(bytes: &[u8]) -> Result<(TaskSheet, PartList), SetFault>
 
 // A task sheet with a plan sheet right after it; a fault of the bytes goes before one of the task set.
 pub fn read_both(bytes: &[u8]) -> Result<(TaskSheet, Proposal), PlanFault>
-    ensures { λ r. ⌜ Read-both (both-sheets (now (bytes .entry))) r ⌝ }
+    ensures value { λ r. ⌜ Read-both (both-sheets (now (bytes .entry))) r ⌝ }
+    ensures refusal { λ r. ⌜ refusal-in Plans.shown r ≡ both-refusal (now (bytes .entry)) ⌝ }
+    ensures texts { λ _. ⌜ Both-are-texts ⌝ }
 {
     let (sheet, list) = both_sheets(bytes)?;
     Ok((sheet, propose(list)))

@@ -55,7 +55,11 @@ fn refusal_of_writing(parts: &[Part], out: &mut [u8]) -> Option<Refusal> {
 }
 
 fn refused(layer: char, number: u8, place: u64) -> Option<Refusal> {
-    Some(Refusal { layer, number, place })
+    Some(Refusal {
+        layer,
+        number,
+        place,
+    })
 }
 
 #[test]
@@ -73,7 +77,10 @@ fn refuses_misspelt_bytes() -> Result<(), Fail> {
     check_eq(refusal_of_tasks(b"T 3"), refused('S', 2, 3))?;
     check_eq(refusal_of_tasks(b"T 3 2\r\n"), refused('S', 2, 5))?;
     check_eq(refusal_of_tasks(b"T 1  2\n"), refused('S', 2, 4))?;
-    check_eq(refusal_of_tasks(b"T 1 1\nP 10\nC 5\n\n"), refused('S', 2, 15))?;
+    check_eq(
+        refusal_of_tasks(b"T 1 1\nP 10\nC 5\n\n"),
+        refused('S', 2, 15),
+    )?;
     check_eq(refusal_of_tasks(b"T 01 1\n"), refused('S', 2, 3))?;
     check_eq(refusal_of_tasks(b"T 1 1\nP 1000000\n"), refused('S', 2, 14))
 }
@@ -89,8 +96,14 @@ fn weighs_a_number_after_its_stop() -> Result<(), Fail> {
 
 #[test]
 fn refuses_what_is_no_task_set() -> Result<(), Fail> {
-    check_eq(refusal_of_tasks(b"T 2 1\nP 10 9\nC 5 5\n"), refused('G', 4, 1))?;
-    check_eq(refusal_of_tasks(b"T 2 1\nP 10 12\nC 5 13\n"), refused('G', 5, 1))
+    check_eq(
+        refusal_of_tasks(b"T 2 1\nP 10 9\nC 5 5\n"),
+        refused('G', 4, 1),
+    )?;
+    check_eq(
+        refusal_of_tasks(b"T 2 1\nP 10 12\nC 5 13\n"),
+        refused('G', 5, 1),
+    )
 }
 
 #[test]
@@ -121,19 +134,38 @@ fn refuses_plan_sheets() -> Result<(), Fail> {
     check_eq(refusal_of_plan(b"K 1\nP 32/0\n"), refused('S', 3, 6))?;
     check_eq(refusal_of_plan(b"K 1\nP 31/8\n"), refused('S', 3, 9))?;
     check_eq(refusal_of_plan(b"K 1\nP 0 0\n"), refused('S', 2, 7))?;
-    check_eq(refusal_of_plan(b"K 1\nP 0/0\nA 1/1\nK"), refused('S', 2, 16))
+    check_eq(
+        refusal_of_plan(b"K 1\nP 0/0\nA 1/1\nK"),
+        refused('S', 2, 16),
+    )
 }
 
 #[test]
 fn names_the_bytes_before_the_task_set() -> Result<(), Fail> {
-    check_eq(refusal_of_both(b"T 2 1\nP 10 9\nC 5 5\nK 1\nP 0/0\nA 0/1\n"), refused('S', 3, 31))?;
-    check_eq(refusal_of_both(b"T 2 1\nP 10 9\nC 5 5\nK 1\nP 0/0\nA 1/1\n"), refused('G', 4, 1))
+    check_eq(
+        refusal_of_both(b"T 2 1\nP 10 9\nC 5 5\nK 1\nP 0/0\nA 0/1\n"),
+        refused('S', 3, 31),
+    )?;
+    check_eq(
+        refusal_of_both(b"T 2 1\nP 10 9\nC 5 5\nK 1\nP 0/0\nA 1/1\n"),
+        refused('G', 4, 1),
+    )
 }
 
 #[test]
 fn refuses_to_write() -> Result<(), Fail> {
-    let part = Part { task: 31, processor: 7, cost: 100_000, window: 1 };
-    let unreadable = Part { task: 31, processor: 8, cost: 1, window: 1 };
+    let part = Part {
+        task: 31,
+        processor: 7,
+        cost: 100_000,
+        window: 1,
+    };
+    let unreadable = Part {
+        task: 31,
+        processor: 8,
+        cost: 1,
+        window: 1,
+    };
     let mut out = [7; 20];
     let short = refusal_of_writing(&[part], &mut out);
     check_eq(short, refused('K', 17, 22))?;

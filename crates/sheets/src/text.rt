@@ -9,7 +9,7 @@ pub const MAX_TEXT: usize = 1225;
 // Some text, at most as long as a plan sheet.
 #[derive(Clone, Copy)]
 pub struct Text {
-    bytes: [u8; 1225],
+    bytes: [u8; MAX_TEXT],
     count: usize,
     ghost sized: { length bytes ≡ 1225 },
     ghost few: { count ≤ 1225 },

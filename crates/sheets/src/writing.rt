@@ -1,7 +1,13 @@
 // Writing plan sheets.
 ghost use mathlib.Core.Path.{_≡_};
-ghost use lib.ListN.{length};
+ghost use lib.ListN.{length, take};
+ghost use Rattle.std.specs.Vec.{made};
+ghost use Rattle.std.specs.declared.result.Result.the-variants.{Ok};
 ghost use Rattle.plan.specs.Parts.{plan-of};
+ghost use Rattle.sheets.specs.Grammar.{plan-sheet};
+ghost use Rattle.plan.specs.Faults.{shown};
+ghost use Rattle.sheets.specs.Refusals.{refusal-in, write-refusal};
+ghost use Rattle.sheets.specs.Laws.{Different-sheets};
 ghost use Rattle.sheets.specs.Texts.{on-scale, writable, unwritable, plan-text, written, left-in};
 ghost use Rattle.tasks.specs.Searches.{first-where};
 use crate::text::Text;
@@ -36,10 +42,13 @@ fn first_unwritable(parts: &[Part]) -> Option<usize>
     None
 }
 
-// Writes the plan sheet to the front of the buffer, and answers its length.
+// Writes the plan sheet to the front of the buffer, and answers its length. What is written would be read back as the plan.
 pub fn write_plan_sheet(plan: &Proposal, out: &mut [u8]) -> Result<usize, PlanFault>
     ensures answer { λ r. ⌜ r ≡ written (plan-of (now (plan .entry))) (length (now (out .entry))) ⌝ }
     ensures buffer { λ r. ⌜ now (out .exit) ≡ left-in r (plan-text (plan-of (now (plan .entry)))) (now (out .entry)) ⌝ }
+    ensures refusal { λ r. ⌜ refusal-in shown r ≡ write-refusal (plan-of (now (plan .entry))) (length (now (out .entry))) ⌝ }
+    ensures read_back { λ r. ⌜ made r (λ n. plan-sheet (take n (now (out .exit))) ≡ Ok (plan-of (now (plan .entry)))) ⌝ }
+    ensures different { λ _. ⌜ Different-sheets ⌝ }
 {
     let parts = plan.parts();
     if let Some(part) = first_unwritable(parts) {

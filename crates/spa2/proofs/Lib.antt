@@ -1,12 +1,17 @@
+pub mod Example
 pub mod Filling
+pub mod Keeping
+pub mod Laws
 pub mod Listing
 pub mod Memory
 pub mod Reserves
 pub mod Rounding
 pub mod Scans
 pub mod Splits
+pub mod Starts
 pub mod Steps
 pub mod Table
 pub mod Turns
 pub mod Visits
 pub mod Weights
+pub mod Windowing

@@ -12,11 +12,11 @@ use Rattle.std.proofs.shelf.Tests.{cases-lt}
 pub take-min : {X : Type 0} (xs : List X) (n : ℕ) → take n xs ≡ take (min n (length xs)) xs
 take-min xs n =
     elim (cases-lt n (length xs)) [
-      inl h ↦ let e : n ≡ min n (length xs) = omega arith in ap (λ (k : ℕ). take k xs) e
-    | inr h ↦
-      let e : length xs ≡ min n (length xs) = omega arith in
-      let all : length xs ≤ length xs = omega arith in
-      take-all n xs h ∙ (sym (take-all (length xs) xs all) ∙ ap (λ (k : ℕ). take k xs) e)
+      | inl h ↦ let e : n ≡ min n (length xs) = omega arith in ap (λ (k : ℕ). take k xs) e
+      | inr h ↦
+          let e : length xs ≡ min n (length xs) = omega arith in
+          let all : length xs ≤ length xs = omega arith in
+          take-all n xs h ∙ (sym (take-all (length xs) xs all) ∙ ap (λ (k : ℕ). take k xs) e)
     ]
 
 -- The list has as many elements as are counted.
@@ -47,3 +47,9 @@ reversed-none {X} xs n e = ap (λ (l : List X). reverse l) (take-min xs n ∙ ap
 -- No more is listed than there are places.
 pub reversed-few : {X : Type 0} (xs : List X) (n : ℕ) → length (reverse (take n xs)) ≤ length xs
 reversed-few xs n = omega (arith, reversed-length xs n)
+
+-- Of n places no more than n are listed.
+pub taken-few : {X : Type 0} (xs : List X) (n : ℕ) → length (take n xs) ≤ n
+taken-few {X} xs n =
+    let within : min n (length xs) ≤ length xs = omega arith in
+    omega (arith, ap (λ (l : List X). length l) (take-min xs n) ∙ length-take-le (min n (length xs)) xs within)

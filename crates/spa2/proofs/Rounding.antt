@@ -16,10 +16,10 @@ up-bounded x T d p h =
     let whole = div-add-mod' x T in
     let rest = mod-lt x {m = T} p in
     elim (cases-order (x / T) d) [
-      inl e ↦ let same : x / T * T ≡ d * T = ap (λ (q : ℕ). q * T) e in omega arith
-    | inr o ↦ elim o [
-        inl l ↦ omega arith
-      | inr g ↦ absurd (let more : (d + 1) * T ≤ x / T * T = let le : d + 1 ≤ x / T = omega arith in mul-le-mul-right T le in omega (arith, add-mul d 1 T))
+      | inl e ↦ let same : x / T * T ≡ d * T = ap (λ (q : ℕ). q * T) e in omega arith
+      | inr o ↦ elim o [
+        | inl l ↦ omega arith
+        | inr g ↦ absurd (let more : (d + 1) * T ≤ x / T * T = let le : d + 1 ≤ x / T = omega arith in mul-le-mul-right T le in omega (arith, add-mul d 1 T))
       ]
     ]
 
@@ -28,8 +28,8 @@ up-bounds x T d p h =
     let whole = div-add-mod' x T in
     let rest = mod-lt x {m = T} p in
     elim (cases-eq (x % T) 0) [
-      inl e ↦ let more : x / T * T ≤ d * T = let le : x / T ≤ d = omega arith in mul-le-mul-right T le in omega arith
-    | inr o ↦ let more : (x / T + 1) * T ≤ d * T = let le : x / T + 1 ≤ d = omega arith in mul-le-mul-right T le in omega (arith, add-mul (x / T) 1 T)
+      | inl e ↦ let more : x / T * T ≤ d * T = let le : x / T ≤ d = omega arith in mul-le-mul-right T le in omega arith
+      | inr o ↦ let more : (x / T + 1) * T ≤ d * T = let le : x / T + 1 ≤ d = omega arith in mul-le-mul-right T le in omega (arith, add-mul (x / T) 1 T)
     ]
 
 -- A load is at most d exactly where the cost, in millionths of a tick, fits d periods.
@@ -55,11 +55,11 @@ cut-fits theta load T p = load-at-most (cut-of theta load T) T (theta - load) p 
 pub cut-leaves : (theta load cost T : ℕ) → 1 ≤ T → theta < load + load-of cost T → 1 ≤ load-of cost T → cut-of theta load T < cost
 cut-leaves theta load cost T p h one =
     elim (cases-lt (cut-of theta load T) cost) [
-      inl l ↦ l
-    | inr g ↦ absurd (
-        let room : cost * 1000000 ≤ (theta - load) * T = le-div-iff-mul-le {k = 1000000} {x = cost} {y = (theta - load) * T} (omega arith) .0 g in
-        let fits = load-at-most cost T (theta - load) p room in
-        omega arith)
+      | inl l ↦ l
+      | inr g ↦ absurd (
+          let room : cost * 1000000 ≤ (theta - load) * T = le-div-iff-mul-le {k = 1000000} {x = cost} {y = (theta - load) * T} (omega arith) .0 g in
+          let fits = load-at-most cost T (theta - load) p room in
+          omega arith)
     ]
 
 -- A cost of 1 or more is a load of 1 or more.
@@ -77,13 +77,13 @@ cut-bounded theta load T h =
 pub cut-within : (theta load cost T : ℕ) → 1 ≤ T → theta < load + load-of cost T → cut-of theta load T ≤ cost
 cut-within theta load cost T p h =
     elim (cases-lt cost (cut-of theta load T)) [
-      inl l ↦ absurd (
-        let room : (cost + 1) * 1000000 ≤ (theta - load) * T = le-div-iff-mul-le {k = 1000000} {x = cost + 1} {y = (theta - load) * T} (omega arith) .0 (omega arith) in
-        let fits = load-at-most cost T (theta - load) p (omega arith) in
-        let some : 1 ≤ theta - load = elim (cases-eq (theta - load) 0) [
-          inl e ↦ absurd (let none : (theta - load) * T ≡ 0 * T = ap (λ (d : ℕ). d * T) e in omega arith)
-        | inr n ↦ omega arith
-        ] in
-        omega arith)
-    | inr g ↦ g
+      | inl l ↦ absurd (
+          let room : (cost + 1) * 1000000 ≤ (theta - load) * T = le-div-iff-mul-le {k = 1000000} {x = cost + 1} {y = (theta - load) * T} (omega arith) .0 (omega arith) in
+          let fits = load-at-most cost T (theta - load) p (omega arith) in
+          let some : 1 ≤ theta - load = elim (cases-eq (theta - load) 0) [
+            | inl e ↦ absurd (let none : (theta - load) * T ≡ 0 * T = ap (λ (d : ℕ). d * T) e in omega arith)
+            | inr n ↦ omega arith
+          ] in
+          omega arith)
+      | inr g ↦ g
     ]

@@ -18,8 +18,8 @@ use Rattle.spa2.proofs.Rounding.{load-whole}
 pub cost-within : (s : TaskSet) (i : ℕ) → cost-of s i ≤ period-of s i
 cost-within s i =
     elim (cases-lt i (s .count)) [
-      inl h ↦ cost-scaled s i h .1
-    | inr h ↦ rw (le-ltb i (s .count) h) (omega arith)
+      | inl h ↦ cost-scaled s i h .1
+      | inr h ↦ rw (le-ltb i (s .count) h) (omega arith)
     ]
 
 pub load-at-whole : (s : TaskSet) (i : ℕ) → load-at (tasks-of s) i ≤ 1000000

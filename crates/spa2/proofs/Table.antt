@@ -40,8 +40,8 @@ threshold-from N v t =
     record {
       holds = leb-true ((v + N * 1000000) ^ N) (2 * (N * 1000000) ^ N) (two .0);
       greatest = λ w h. elim (cases-lt v w) [
-        inl l ↦ absurd (let more : (v + 1 + N * 1000000) ^ N ≤ (w + N * 1000000) ^ N = let le : v + 1 + N * 1000000 ≤ w + N * 1000000 = omega arith in pow-le-pow-left le N in omega arith)
-      | inr g ↦ g
+        | inl l ↦ absurd (let more : (v + 1 + N * 1000000) ^ N ≤ (w + N * 1000000) ^ N = let le : v + 1 + N * 1000000 ≤ w + N * 1000000 = omega arith in pow-le-pow-left le N in omega arith)
+        | inr g ↦ g
       ];
     }
 

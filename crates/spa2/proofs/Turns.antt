@@ -16,10 +16,10 @@ use Rattle.spa2.specs.declared.state.Choice.{Choice}
 use Rattle.spa2.specs.Placing.{Tasks, State, with-pieces, after-choice, chosen, settled, settled-by, turn, turns, closed}
 
 -- What follows a turn with piece x, of k more.
-abbrev onward : Tasks → ℕ → Piece → Option State → Result (List Part) PlanFault
+abbrev pub onward : Tasks → ℕ → Piece → Option State → Result (List Part) PlanFault
 onward t k x o = elim o [ None ↦ Err (Unplaced (x .task)) | Some next ↦ turns t k next ]
 
-abbrev ahead : Tasks → ℕ → State → List Piece → Result (List Part) PlanFault
+abbrev pub ahead : Tasks → ℕ → State → List Piece → Result (List Part) PlanFault
 ahead t k s ps = elim ps [ [] ↦ Ok (s .parts) | x ∷ xs ↦ onward t k x (turn t (with-pieces s xs) x) ]
 
 pub turns-done : (t : Tasks) (k : ℕ) (s : State) → s .pieces ≡ [] → turns t k s ≡ Ok (s .parts)

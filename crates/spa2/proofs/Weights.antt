@@ -47,10 +47,10 @@ pub record Lighter (s last : State) (spare : ℕ) : Type 0 where
   pub parts-grow : length (last .parts) ≤ length (s .parts) + 1
 
 -- The processor with the whole piece, and with what is cut of it.
-abbrev grown : Tasks → State → Piece → ℕ → Processor
+abbrev pub grown : Tasks → State → Piece → ℕ → Processor
 grown t s x p = record { load = processor-at s p .load + load-of (x .cost) (t .period (x .task)); standing = processor-at s p .standing }
 
-abbrev filled : Tasks → State → Piece → ℕ → Processor
+abbrev pub filled : Tasks → State → Piece → ℕ → Processor
 filled t s x p = record { load = processor-at s p .load + load-of (cut-at t s x p) (t .period (x .task)); standing = Full }
 
 whole-normal : (t : Tasks) (s : State) (x : Piece) (p : ℕ) → p < length (s .processors) → Lighter s (whole t s x (Normal p)) 0

@@ -6,3 +6,4 @@ pub mod Placing
 pub mod Seen
 pub mod Windows
 pub mod Plans
+pub mod Laws

@@ -201,8 +201,8 @@ abbrev pub turns : Tasks → ℕ → State → Result (List Part) PlanFault
 turns t zero s = closed (s .pieces) (s .parts)
 turns t (suc k) s =
     elim (s .pieces) [
-      [] ↦ Ok (s .parts)
-    | x ∷ xs ↦ elim (turn t (with-pieces s xs) x) [ None ↦ Err (Unplaced (x .task)) | Some next ↦ turns t k next ]
+      | [] ↦ Ok (s .parts)
+      | x ∷ xs ↦ elim (turn t (with-pieces s xs) x) [ None ↦ Err (Unplaced (x .task)) | Some next ↦ turns t k next ]
     ]
 
 -- The parts of the tasks on m processors, without windows, or the task that has no place. Each turn places a piece whole or fills a

@@ -4,6 +4,8 @@ use mathlib.Core.Path.{_≡_}
 use mathlib.Core.List.{List, [], _∷_}
 use Prim.Native.Nat.{ℕ, _≤_}
 use lib.Dec.{leb}
+use Rattle.std.specs.declared.option.Option.{Option}
+use Rattle.std.specs.declared.option.Option.the-variants.{Some, None}
 use Rattle.std.specs.declared.result.Result.{Result}
 use Rattle.std.specs.declared.result.Result.the-variants.{Ok, Err}
 use Rattle.schedule.specs.declared.Part.{Part}
@@ -17,8 +19,11 @@ use Rattle.tasks.specs.declared.order.TaskKey.{TaskKey}
 use Rattle.tasks.specs.declared.set.TaskSet.{TaskSet}
 use Rattle.plan.specs.declared.fault.PlanFault.{PlanFault}
 use Rattle.plan.specs.declared.fault.PlanFault.the-variants.{Set}
+use Rattle.plan.specs.declared.parts.PartList.{PartList}
 use Rattle.plan.specs.declared.parts.Proposal.{Proposal}
-use Rattle.plan.specs.Parts.{plan-of}
+use Rattle.sheet.specs.declared.fault.Refusal.{Refusal}
+use Rattle.plan.specs.Faults.{shown}
+use Rattle.plan.specs.Parts.{parts-of, plan-of}
 use Rattle.plan.specs.Responses.{response-within}
 use Rattle.spa2.specs.Placing.{Tasks, tasks-of, parts-placed}
 use Rattle.spa2.specs.Windows.{windowed}
@@ -44,6 +49,11 @@ spa2 t m before curve = cond (leb 1 m && leb m 8) (finished-if t m before curve 
 abbrev pub plan-for : TaskSet → ℕ → (TaskKey → TaskKey → Bool) → (ℕ → ℕ → ℕ) → Result (List Part) PlanFault
 plan-for set m before curve = spa2 (tasks-of set) m (λ a b. before (as-asked (key-of set a)) (as-asked (key-of set b))) (λ i. curve (as-numbered i))
 
+-- What an answer with listed parts says: those parts, or the fault.
+abbrev pub listed-parts : Result PartList PlanFault → Result (List Part) PlanFault
+listed-parts (Ok l) = Ok (parts-of l)
+listed-parts (Err e) = Err e
+
 -- What a planner's answer says: the parts of its proposal, or the fault.
 abbrev pub answered : Result Proposal PlanFault → Result (List Part) PlanFault
 answered (Ok p) = Ok (plan-of p)
@@ -53,3 +63,8 @@ answered (Err e) = Err e
 abbrev pub Counted : ℕ → Result ℕ SetFault → Type 0
 Counted m (Ok k) = (k ≡ m) × (1 ≤ m) × (m ≤ 8)
 Counted m (Err e) = ((leb 1 m && leb m 8) ≡ false) × (e ≡ OffScale 0)
+
+-- A refusal by layer, number and place; none where there are parts.
+abbrev pub refusal-of : Result (List Part) PlanFault → Option Refusal
+refusal-of (Ok ps) = None
+refusal-of (Err e) = Some (shown e)

@@ -1,7 +1,7 @@
 // The planner: SPA2, which places tasks on processors and cuts those that do not fit whole.
-pub mod front;
-mod load;
-pub mod piece;
+mod front;
+pub mod load;
+mod piece;
 pub mod planning;
 mod state;
 #[cfg(test)]

@@ -2,6 +2,8 @@
 ghost use mathlib.Core.Path.{_≡_};
 ghost use Prim.Native.Nat.{_≤_, _*_};
 ghost use Rattle.spa2.specs.Loads.{load-of, heavy, cut-of};
+ghost use Rattle.spa2.specs.Placing.{load-at, tasks-of};
+use tasks::set::TaskSet;
 
 // A whole processor.
 pub const WHOLE: u64 = 1_000_000;
@@ -30,4 +32,12 @@ pub(crate) fn cut_cost(load: u64, theta: u64, period: u32) -> u32
     ensures { λ r. ⌜ r ≡ cut-of theta load period ⌝ }
 {
     (theta.saturating_sub(load) * period as u64 / WHOLE) as u32
+}
+
+// The load of a task of the set; 0 past its tasks.
+pub fn task_load(set: &TaskSet, task: usize) -> u64
+    ensures value { λ r. ⌜ r ≡ load-at (tasks-of (now (set .entry))) task ⌝ }
+    ensures bound { λ r. ⌜ r ≤ 1000000 ⌝ }
+{
+    load(set.cost(task), set.period(task))
 }

@@ -31,8 +31,14 @@ impl Piece {
         ensures first { λ r. ⌜ r .0 ≡ record { task = self .task; cost = min (self .cost) cost } ⌝ }
         ensures rest { λ r. ⌜ r .1 .piece ≡ record { task = self .task; cost = self .cost - cost } ⌝ }
     {
-        let first = Piece { task: self.task, cost: self.cost.min(cost) };
-        let rest = Piece { task: self.task, cost: self.cost.saturating_sub(cost) };
+        let first = Piece {
+            task: self.task,
+            cost: self.cost.min(cost),
+        };
+        let rest = Piece {
+            task: self.task,
+            cost: self.cost.saturating_sub(cost),
+        };
         (first, Remainder { piece: rest })
     }
 }
@@ -57,6 +63,8 @@ impl Remainder {
         ensures { λ r. ⌜ r ≡ Unplaced (self .piece .task) ⌝ }
     {
         let Remainder { piece } = self;
-        PlanFault::Unplaced { task: piece.task as usize }
+        PlanFault::Unplaced {
+            task: piece.task as usize,
+        }
     }
 }

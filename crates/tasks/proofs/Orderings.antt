@@ -1,18 +1,17 @@
 -- The tasks of a set under a lawful priority order, and their ranks.
 use mathlib.Core.Bool.{Bool, true, false}
-use mathlib.Core.List.{List, [], _∷_}
 use mathlib.Core.Logic.{_⊎_, inl, inr}
-use mathlib.Core.Path.{_≡_, refl, sym, ap, subst, _∙_}
+use mathlib.Core.Path.{_≡_, refl, sym, ap, subst}
 use Prim.Native.Nat.{ℕ, zero, suc, _+_, _≤_, _<_}
 use native.Mathlib.Omega.{arith}
 use lib.Dec.{T}
-use Rattle.std.proofs.shelf.Tests.{cases-bool, cases-eq, cases-lt}
+use Rattle.std.proofs.shelf.Tests.{cases-bool, cases-eq}
 use Rattle.schedule.proofs.facts.Lists.{from-T, to-T, total-lt, in-below, below-in, one-if-le}
 use Rattle.schedule.specs.Lists.{_∈_, total, upFrom, below, one-if}
 use Rattle.schedule.specs.Orders.{Ordered}
 use Rattle.tasks.specs.Numbers.{as-numbered}
 use Rattle.tasks.specs.Orders.{Told, as-asked}
-use Rattle.tasks.specs.Ranks.{precedes, rank-in, Ranked}
+use Rattle.tasks.specs.Ranks.{precedes, Ranked}
 use Rattle.tasks.specs.Sets.{count-of, key-of}
 use Rattle.tasks.specs.declared.order.TaskKey.{TaskKey}
 use Rattle.tasks.specs.declared.set.TaskSet.{TaskSet}

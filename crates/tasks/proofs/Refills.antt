@@ -1,9 +1,9 @@
 -- A token bucket keeps the laws of an arrival rule, over bare numbers: b is the size, p the refill time, m the tokens held, d the
 -- ticks until the next one returns, and gave says whether one was given in this tick.
-use mathlib.Core.Bool.{Bool, true, false, cond, not}
+use mathlib.Core.Bool.{Bool, true, false, cond}
 use mathlib.Core.Logic.{inl, inr}
-use mathlib.Core.Path.{_≡_, refl, sym, ap, _∙_}
-use Prim.Native.Nat.{ℕ, _+_, _-_, _*_, _/_, _%_, _≤_, _<_, min}
+use mathlib.Core.Path.{_≡_, refl}
+use Prim.Native.Nat.{ℕ, _+_, _-_, _*_, _/_, _≤_, _<_, min}
 use native.Mathlib.Omega.{arith}
 use native.Mathlib.Nat.{add-div-right, mul-le-mul-left}
 use lib.Dec.{eqb, ltb}

@@ -1,5 +1,5 @@
 -- What the tests of periods and costs tell, and what holds of the tasks of every set.
-use mathlib.Core.Bool.{Bool, true, false, cond, not, _&&_, _||_}
+use mathlib.Core.Bool.{true, false, not, _&&_, _||_}
 use mathlib.Core.List.{List}
 use mathlib.Core.Logic.{inl, inr}
 use mathlib.Core.Path.{_≡_, sym, subst}
@@ -7,7 +7,7 @@ use Prim.Native.Nat.{ℕ, _+_, _-_, _≤_, _<_}
 use native.Mathlib.Omega.{arith}
 use lib.Dec.{ltb}
 use lib.ListN.{getD, length, replicate}
-use Rattle.std.proofs.shelf.Lists.{getD-replicate, getD-past, length-replicate}
+use Rattle.std.proofs.shelf.Lists.{getD-replicate, getD-past}
 use Rattle.std.proofs.shelf.Tests.{cases-lt, lt-ltb, le-ltb, ltb-false}
 use Rattle.std.proofs.shelf.Ways.{tells}
 use Rattle.std.specs.declared.option.Option.the-variants.{None}

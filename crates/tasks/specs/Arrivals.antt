@@ -1,6 +1,6 @@
 -- What an arrival rule's calls do to its curves and to what is left of them. All speak of task numbers below 32 and, of
 -- what is left, of lengths from 1.
-use mathlib.Core.Bool.{Bool, true, false, cond, _&&_}
+use mathlib.Core.Bool.{Bool, cond, _&&_}
 use mathlib.Core.Path.{_≡_}
 use Prim.Native.Nat.{ℕ, _+_, _-_, _≤_, _<_, min}
 use lib.Dec.{eqb}

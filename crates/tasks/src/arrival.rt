@@ -1,7 +1,6 @@
 // Arrival rules: how many releases of each task may be admitted.
-ghost use mathlib.Core.Bool.{Bool};
 ghost use mathlib.Core.Path.{_≡_};
-ghost use Prim.Native.Nat.{ℕ, _+_, _-_, _≤_, _<_, min};
+ghost use Prim.Native.Nat.{ℕ, _<_};
 ghost use lib.Dec.{eqb};
 ghost use Rattle.std.specs.Results.{isOk};
 ghost use Rattle.schedule.specs.Curves.{Curve};

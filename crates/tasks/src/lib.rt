@@ -10,4 +10,6 @@ pub mod ranking;
 pub mod rate_monotonic;
 pub mod set;
 pub mod spaced;
+#[cfg(test)]
+mod tests;
 mod tokens;

@@ -19,8 +19,20 @@ impl<O, R> CheckedPlan<O, R> {
         ensures passed { λ r. ⌜ numbers-pass (r .set) (r .processors) (parts-of (r .list)) ≡ true ⌝ }
         ensures same { λ r. ⌜ (r .set ≡ self .set) × (r .processors ≡ self .processors) × (r .list ≡ self .list) × (r .order ≡ self .order) × (r .rule ≡ self .rule) ⌝ }
     {
-        let CheckedPlan { set, processors, list, order, rule } = self;
-        Carried { set, processors, list, order, rule }
+        let CheckedPlan {
+            set,
+            processors,
+            list,
+            order,
+            rule,
+        } = self;
+        Carried {
+            set,
+            processors,
+            list,
+            order,
+            rule,
+        }
     }
 }
 
@@ -32,7 +44,18 @@ impl<O: PriorityOrder, R: ArrivalRule> CheckedPlan<O, R> {
         ensures carried { λ r. ⌜ (r .order ≡ order) × (r .rule ≡ rule) ⌝ }
     {
         let set = TaskSet::smallest();
-        let list = PartList::of_one(Part { task: 0, processor: 0, cost: 1, window: 1 });
-        CheckedPlan { set, processors: 1, list, order, rule }
+        let list = PartList::of_one(Part {
+            task: 0,
+            processor: 0,
+            cost: 1,
+            window: 1,
+        });
+        CheckedPlan {
+            set,
+            processors: 1,
+            list,
+            order,
+            rule,
+        }
     }
 }

@@ -17,15 +17,26 @@ impl PartList {
     pub fn empty() -> PartList
         ensures { λ r. ⌜ parts-of r ≡ [] ⌝ }
     {
-        let unused = Part { task: 0, processor: 0, cost: 0, window: 0 };
-        PartList { parts: [unused; 64], count: 0 }
+        let unused = Part {
+            task: 0,
+            processor: 0,
+            cost: 0,
+            window: 0,
+        };
+        PartList {
+            parts: [unused; 64],
+            count: 0,
+        }
     }
 
     // One part.
     pub(crate) fn of_one(part: Part) -> PartList
         ensures { λ r. ⌜ parts-of r ≡ part ∷ [] ⌝ }
     {
-        PartList { parts: [part; 64], count: 1 }
+        PartList {
+            parts: [part; 64],
+            count: 1,
+        }
     }
 
     pub fn len(&self) -> usize

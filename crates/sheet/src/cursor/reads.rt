@@ -4,6 +4,7 @@ ghost use mathlib.Core.Path.{_≡_};
 ghost use Prim.Native.Nat.{_≤_};
 ghost use Rattle.std.specs.Results.{isOk};
 ghost use Rattle.std.specs.Vec.{made};
+ghost use Rattle.sheet.specs.declared.fault.SheetFault.the-variants.{Misspelt};
 ghost use Rattle.sheet.specs.Reading.{told, expected, number, opened, ended};
 use crate::cursor::Cursor;
 use crate::cursor::MAX_BYTES;
@@ -32,6 +33,13 @@ impl<'a> Cursor<'a> {
         Cursor { rest: bytes, at: 0 }
     }
 
+    // The next byte, or the end, as a fault.
+    pub fn misspelt(&self) -> SheetFault
+        ensures { λ r. ⌜ r ≡ Misspelt (now (self .entry) .at) ⌝ }
+    {
+        SheetFault::Misspelt { at: self.at }
+    }
+
     // Goes past the character, which has to be the next byte.
     pub fn expect(&mut self, mark: char) -> Result<(), SheetFault>
         ensures value { λ r. ⌜ expected mark (now (self .entry) .at) (now (now (self .entry) .rest)) ≡ told r (now (self .exit) .at) (now (now (self .exit) .rest)) ⌝ }
@@ -43,15 +51,8 @@ impl<'a> Cursor<'a> {
                 *self = Cursor { rest, at: at + 1 };
                 Ok(())
             }
-            _ => Err(SheetFault::Misspelt { at }),
+            _ => Err(self.misspelt()),
         }
-    }
-
-    // How many bytes have been read.
-    pub fn place(&self) -> usize
-        ensures { λ r. ⌜ r ≡ now (self .entry) .at ⌝ }
-    {
-        self.at
     }
 
     // The end of the input, which has to be here.
@@ -59,7 +60,7 @@ impl<'a> Cursor<'a> {
         ensures { λ r. ⌜ r ≡ ended (now (self .entry) .at) (now (now (self .entry) .rest)) ⌝ }
     {
         if self.rest.len() > 0 {
-            return Err(SheetFault::Misspelt { at: self.at });
+            return Err(self.misspelt());
         }
         Ok(())
     }

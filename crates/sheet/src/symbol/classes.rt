@@ -1,6 +1,6 @@
 // The classes of bytes.
 ghost use mathlib.Core.Path.{_≡_};
-ghost use Rattle.sheet.specs.Reading.{symbol-of, stops, stop-byte};
+ghost use Rattle.sheet.specs.Reading.{symbol-of, stops};
 use crate::symbol::Stop;
 use crate::symbol::Symbol;
 
@@ -10,7 +10,9 @@ pub fn classify(byte: u8, digits: usize, value: u32) -> Symbol
     ensures { λ r. ⌜ r ≡ symbol-of byte digits value ⌝ }
 {
     match byte {
-        b'0'..=b'9' if digits == 0 || (value > 0 && digits < 6) => Symbol::Digit(u32::from(byte - b'0')),
+        b'0'..=b'9' if digits == 0 || (value > 0 && digits < 6) => Symbol::Digit(u32::from(
+            byte - b'0',
+        )),
         b'/' if digits > 0 => Symbol::Slash,
         b' ' if digits > 0 => Symbol::Space,
         b'\n' if digits > 0 => Symbol::LineFeed,
@@ -28,17 +30,6 @@ impl Stop {
             (Stop::Space, Symbol::Space) => true,
             (Stop::LineFeed, Symbol::LineFeed) => true,
             _ => false,
-        }
-    }
-
-    // The byte that this stop is.
-    pub fn byte(self) -> u8
-        ensures { λ r. ⌜ r ≡ stop-byte self ⌝ }
-    {
-        match self {
-            Stop::Slash => b'/',
-            Stop::Space => b' ',
-            Stop::LineFeed => b'\n',
         }
     }
 }

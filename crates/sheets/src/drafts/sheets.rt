@@ -20,22 +20,30 @@ use tasks::fault::SetFault;
 use tasks::set::TaskSet;
 
 // The lines of a task sheet.
-pub fn task_lines(cursor: &mut Cursor) -> Result<TaskDraft, SheetFault>
+pub(crate) fn task_lines(cursor: &mut Cursor) -> Result<TaskDraft, SheetFault>
     ensures { λ r. ⌜ task-lines (now (cursor .entry) .at) (now (now (cursor .entry) .rest)) ≡ told-as drafted r (now (cursor .exit) .at) (now (now (cursor .exit) .rest)) ⌝ }
 {
     let counts = number_line(cursor, 'T', 0)?;
     let count = counts[0] as usize;
     let periods = number_line(cursor, 'P', count)?;
     let costs = number_line(cursor, 'C', count)?;
-    Ok(TaskDraft { processors: counts[1] as usize, count, periods, costs })
+    Ok(TaskDraft {
+        processors: counts[1] as usize,
+        count,
+        periods,
+        costs,
+    })
 }
 
 // The task sheet of a draft, where a task set can be made of it.
-pub fn sheet_of(draft: &TaskDraft) -> Result<TaskSheet, SetFault>
+pub(crate) fn sheet_of(draft: &TaskDraft) -> Result<TaskSheet, SetFault>
     ensures { λ r. ⌜ Sheet-of (drafted (now (draft .entry))) r ⌝ }
 {
     let set = TaskSet::new(&draft.periods[0..draft.count], &draft.costs[0..draft.count])?;
-    Ok(TaskSheet { set, processors: draft.processors })
+    Ok(TaskSheet {
+        set,
+        processors: draft.processors,
+    })
 }
 
 // The parts with these places and amounts.
@@ -47,13 +55,18 @@ fn assemble(places: &[Pair], amounts: &[Pair]) -> PartList
     for i in 0..places.len() {
         let task = places[i].left as u8;
         let processor = places[i].right as u8;
-        let _ = list.push(Part { task, processor, cost: amounts[i].left, window: amounts[i].right });
+        let _ = list.push(Part {
+            task,
+            processor,
+            cost: amounts[i].left,
+            window: amounts[i].right,
+        });
     }
     list
 }
 
 // The lines of a plan sheet.
-pub fn plan_lines(cursor: &mut Cursor) -> Result<PartList, SheetFault>
+pub(crate) fn plan_lines(cursor: &mut Cursor) -> Result<PartList, SheetFault>
     ensures { λ r. ⌜ plan-lines (now (cursor .entry) .at) (now (now (cursor .entry) .rest)) ≡ told-as parts-of r (now (cursor .exit) .at) (now (now (cursor .exit) .rest)) ⌝ }
 {
     let counts = number_line(cursor, 'K', 0)?;

@@ -14,7 +14,11 @@ use sheet::symbol::Stop;
 fn stop_before(left: usize) -> Stop
     ensures { λ r. ⌜ r ≡ stop-before left ⌝ }
 {
-    if left == 0 { Stop::LineFeed } else { Stop::Space }
+    if left == 0 {
+        Stop::LineFeed
+    } else {
+        Stop::Space
+    }
 }
 
 // One number for each of the limits, and the line feed.
@@ -32,7 +36,12 @@ pub(crate) fn read_numbers(cursor: &mut Cursor, limits: &[Limits]) -> Result<[u3
 }
 
 // Two numbers with a slash between them, up to the stop.
-fn read_pair(cursor: &mut Cursor, left: Limits, right: Limits, stop: Stop) -> Result<Pair, SheetFault>
+fn read_pair(
+    cursor: &mut Cursor,
+    left: Limits,
+    right: Limits,
+    stop: Stop,
+) -> Result<Pair, SheetFault>
     ensures { λ r. ⌜ pair left right stop (now (cursor .entry) .at) (now (now (cursor .entry) .rest)) ≡ told r (now (cursor .exit) .at) (now (now (cursor .exit) .rest)) ⌝ }
 {
     let left = cursor.number(left, Stop::Slash)?;
@@ -42,7 +51,12 @@ fn read_pair(cursor: &mut Cursor, left: Limits, right: Limits, stop: Stop) -> Re
 }
 
 // So many pairs, and the line feed.
-pub(crate) fn read_pairs(cursor: &mut Cursor, left: Limits, right: Limits, count: usize) -> Result<[Pair; 64], SheetFault>
+pub(crate) fn read_pairs(
+    cursor: &mut Cursor,
+    left: Limits,
+    right: Limits,
+    count: usize,
+) -> Result<[Pair; 64], SheetFault>
     requires { ⌜ count ≤ 64 ⌝ }
     ensures { λ r. ⌜ pairs left right count (now (cursor .entry) .at) (now (now (cursor .entry) .rest)) ≡ told-as (take count) r (now (cursor .exit) .at) (now (now (cursor .exit) .rest)) ⌝ }
 {

@@ -4,19 +4,23 @@ ghost use mathlib.Core.List.{[], _∷_, _++_};
 ghost use mathlib.Core.Path.{_≡_};
 ghost use Prim.Native.Nat.{ℕ, _+_, _*_, _≤_, _<_};
 ghost use lib.ListN.{length, getD};
-ghost use Rattle.std.specs.Written.{decimal};
+ghost use Rattle.sheet.specs.Numerals.{numeral};
 ghost use Rattle.sheets.specs.Texts.{text-of, pair-text, place-text, amounts-text, items-text, plan-text, writable, no-part};
+use crate::text::MAX_TEXT;
 use crate::text::Text;
 use schedule::Part;
 
 impl Text {
-    pub fn empty() -> Text
+    pub(crate) fn empty() -> Text
         ensures { λ r. ⌜ text-of r ≡ [] ⌝ }
     {
-        Text { bytes: [0; 1225], count: 0 }
+        Text {
+            bytes: [0; MAX_TEXT],
+            count: 0,
+        }
     }
 
-    pub fn as_slice(&self) -> &[u8]
+    pub(crate) fn as_slice(&self) -> &[u8]
         ensures { λ r. ⌜ now r ≡ text-of (now (self .entry)) ⌝ }
     {
         &self.bytes[0..self.count]
@@ -34,8 +38,8 @@ impl Text {
 
     // Adds a number of up to six digits.
     fn push_number(&mut self, value: u32)
-        requires { ⌜ value < 1000000 ⌝ ∗ ⌜ length (text-of (now self)) + length (decimal value) ≤ 1225 ⌝ }
-        ensures { λ _. ⌜ text-of (now (self .exit)) ≡ text-of (now (self .entry)) ++ decimal value ⌝ }
+        requires { ⌜ value < 1000000 ⌝ ∗ ⌜ length (text-of (now self)) + length (numeral value) ≤ 1225 ⌝ }
+        ensures { λ _. ⌜ text-of (now (self .exit)) ≡ text-of (now (self .entry)) ++ numeral value ⌝ }
     {
         if value >= 10 {
             self.push_number(value / 10);
@@ -57,7 +61,7 @@ impl Text {
     // Adds the line with the count of the parts.
     fn push_count(&mut self, count: usize)
         requires { ⌜ count ≤ 64 ⌝ ∗ ⌜ length (text-of (now self)) + 5 ≤ 1225 ⌝ }
-        ensures { λ _. ⌜ text-of (now (self .exit)) ≡ text-of (now (self .entry)) ++ (75 ∷ 32 ∷ (decimal count ++ (10 ∷ []))) ⌝ }
+        ensures { λ _. ⌜ text-of (now (self .exit)) ≡ text-of (now (self .entry)) ++ (75 ∷ 32 ∷ (numeral count ++ (10 ∷ []))) ⌝ }
     {
         self.push(b'K');
         self.push(b' ');

@@ -23,7 +23,7 @@ impl<'a, T: Copy> FrontList<'a, T> {
     pub fn len(&self) -> usize
         ensures { λ r. ⌜ r ≡ length (listed (now (self .entry))) ⌝ }
     {
-        self.count.min(self.items.len())
+        self.items.len().min(self.count)
     }
 
     // Puts an element in front, or gives it back where there is no room.

@@ -5,10 +5,10 @@ ghost use mathlib.Core.Path.{_≡_};
 ghost use Prim.Native.Nat.{_≤_, _<_};
 ghost use lib.ListN.{length};
 ghost use Rattle.tasks.specs.Sets.{count-of};
-ghost use Rattle.spa2.specs.Placing.{tasks-of, load-at, followers, goes-beforehand, beforehand, visited};
+ghost use Rattle.spa2.specs.Placing.{tasks-of, followers, goes-beforehand, beforehand, visited};
 ghost use Rattle.spa2.specs.Seen.{seen};
 use crate::load::is_heavy;
-use crate::load::load;
+use crate::load::task_load;
 use crate::piece::Piece;
 use crate::state::Planner;
 use crate::state::Processor;
@@ -16,14 +16,6 @@ use crate::state::Standing;
 use crate::theta::theta;
 use schedule::Part;
 use tasks::set::TaskSet;
-
-// The load of a task of the set; 0 past its tasks.
-fn task_load(set: &TaskSet, task: usize) -> u64
-    ensures value { λ r. ⌜ r ≡ load-at (tasks-of (now (set .entry))) task ⌝ }
-    ensures bound { λ r. ⌜ r ≤ 1000000 ⌝ }
-{
-    load(set.cost(task), set.period(task))
-}
 
 // The loads of the tasks that follow a task.
 fn followers_load(set: &TaskSet, task: usize) -> u64
@@ -59,9 +51,17 @@ impl<'a> Planner<'a> {
         ensures { λ _. ⌜ seen (now (self .exit)) ≡ beforehand (tasks-of (now (set .entry))) (seen (now (self .entry))) task ⌝ }
     {
         let number = self.reserve.len();
-        self.processors[number] = Processor { load: task_load(set, task), standing: Standing::Reserved };
+        self.processors[number] = Processor {
+            load: task_load(set, task),
+            standing: Standing::Reserved,
+        };
         let _ = self.reserve.push_front(number);
-        let _ = self.parts.push(Part { task: task as u8, processor: number as u8, cost: set.cost(task), window: 0 });
+        let _ = self.parts.push(Part {
+            task: task as u8,
+            processor: number as u8,
+            cost: set.cost(task),
+            window: 0,
+        });
     }
 
     // Visits a task: it is placed beforehand, or becomes a piece.
@@ -74,7 +74,10 @@ impl<'a> Planner<'a> {
         if self.goes_first(set, task) {
             self.place_first(set, task);
         } else {
-            let _ = self.pieces.push_front(Piece { task: task as u8, cost: set.cost(task) });
+            let _ = self.pieces.push_front(Piece {
+                task: task as u8,
+                cost: set.cost(task),
+            });
         }
     }
 }

@@ -19,19 +19,29 @@ use tasks::set::TaskSet;
 
 impl<'a> Planner<'a> {
     // A planner that has placed nothing, over memory for 32 pieces and 8 processor numbers.
-    pub(crate) fn new(processors: &'a mut [Processor], pieces: &'a mut [Piece], reserve: &'a mut [usize]) -> Planner<'a>
+    pub(crate) fn new(
+        processors: &'a mut [Processor],
+        pieces: &'a mut [Piece],
+        reserve: &'a mut [usize],
+    ) -> Planner<'a>
         requires few { ⌜ length (now processors) ≤ 8 ⌝ }
         requires spacious { ⌜ length (now pieces) ≡ 32 ⌝ }
         requires roomy { ⌜ length (now reserve) ≡ 8 ⌝ }
         ensures { λ r. ⌜ seen r ≡ record { processors = now (processors .entry); pieces = []; reserve = []; parts = [] } ⌝ }
     {
-        Planner { processors, pieces: FrontList::new(pieces), reserve: FrontList::new(reserve), parts: PartList::empty() }
+        Planner {
+            processors,
+            pieces: FrontList::new(pieces),
+            reserve: FrontList::new(reserve),
+            parts: PartList::empty(),
+        }
     }
 
     // Step 1 for all tasks.
     pub(crate) fn visit_all(&mut self, set: &TaskSet)
         requires { ⌜ (length (seen (now self) .pieces) ≡ 0) × (length (seen (now self) .reserve) ≡ 0) × (length (seen (now self) .parts) ≡ 0) ⌝ }
         ensures after { λ _. ⌜ seen (now (self .exit)) ≡ visited-from (tasks-of (now (set .entry))) (seen (now (self .entry))) 0 (count-of (now (set .entry))) ⌝ }
+        ensures enough { λ _. ⌜ weight (seen (now (self .exit))) ≤ count-of (now (set .entry)) + length (seen (now (self .entry)) .processors) ⌝ }
         ensures light { λ _. ⌜ length (seen (now (self .exit)) .parts) + weight (seen (now (self .exit))) ≤ 64 ⌝ }
     {
         for task in 0..set.count() {
@@ -46,7 +56,9 @@ impl<'a> Planner<'a> {
     {
         while let Some(piece) = self.pieces.take_front() {
             let Some(choice) = self.choose() else {
-                return Err(PlanFault::Unplaced { task: piece.task as usize });
+                return Err(PlanFault::Unplaced {
+                    task: piece.task as usize,
+                });
             };
             self.place(set, piece, choice)?;
         }

@@ -66,7 +66,12 @@ impl<'a> Planner<'a> {
         ensures { λ _. ⌜ seen (now (self .exit)) ≡ with-parts (seen (now (self .entry))) (with-cut (first .task) number (first .cost) (seen (now (self .entry)) .parts)) ⌝ }
     {
         if first.cost >= 1 {
-            let _ = self.parts.push(Part { task: first.task, processor: number as u8, cost: first.cost, window: 0 });
+            let _ = self.parts.push(Part {
+                task: first.task,
+                processor: number as u8,
+                cost: first.cost,
+                window: 0,
+            });
         }
     }
 
@@ -81,9 +86,17 @@ impl<'a> Planner<'a> {
         let number = choice.number();
         let old = self.processors[number];
         let load = old.load + load(piece.cost, set.period(piece.task as usize));
-        self.processors[number] = Processor { load, standing: old.standing };
+        self.processors[number] = Processor {
+            load,
+            standing: old.standing,
+        };
         self.give_back(choice);
-        let _ = self.parts.push(Part { task: piece.task, processor: number as u8, cost: piece.cost, window: 0 });
+        let _ = self.parts.push(Part {
+            task: piece.task,
+            processor: number as u8,
+            cost: piece.cost,
+            window: 0,
+        });
     }
 
     // Places as much of a piece as its processor can take, which is then full. What is left goes in front.
@@ -100,7 +113,10 @@ impl<'a> Planner<'a> {
         let period = set.period(piece.task as usize);
         let (first, rest) = piece.cut(cut_cost(old.load, theta(set.count()), period));
         let load = old.load + load(first.cost, period);
-        self.processors[number] = Processor { load, standing: Standing::Full };
+        self.processors[number] = Processor {
+            load,
+            standing: Standing::Full,
+        };
         self.list_cut(first, number);
         match rest.put_back(&mut self.pieces) {
             Ok(()) => Ok(()),
@@ -109,7 +125,12 @@ impl<'a> Planner<'a> {
     }
 
     // Places a piece on the chosen processor, whole or cut.
-    pub(super) fn place(&mut self, set: &TaskSet, piece: Piece, choice: Choice) -> Result<(), PlanFault>
+    pub(super) fn place(
+        &mut self,
+        set: &TaskSet,
+        piece: Piece,
+        choice: Choice,
+    ) -> Result<(), PlanFault>
         requires known { ⌜ number-of choice < length (seen (now self) .processors) ⌝ }
         requires few { ⌜ length (seen (now self) .parts) < 64 ⌝ }
         requires piece_room { ⌜ length (seen (now self) .pieces) < 32 ⌝ }

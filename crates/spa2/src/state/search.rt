@@ -1,6 +1,6 @@
 // The search for the least loaded processor.
 ghost use mathlib.Core.Path.{_≡_};
-ghost use Rattle.spa2.specs.Choices.{least-loaded, better, considered};
+ghost use Rattle.spa2.specs.Choices.{least-loaded, better, considered, Least-open};
 ghost use Rattle.spa2.specs.Seen.{seen};
 use crate::state::Planner;
 use crate::state::Processor;
@@ -28,7 +28,13 @@ fn considered_seat(best: Option<Seat>, number: usize, processor: Processor) -> O
     ensures { λ r. ⌜ r ≡ considered best number processor ⌝ }
 {
     match processor.standing {
-        Standing::Open => better_seat(best, Seat { number, load: processor.load }),
+        Standing::Open => better_seat(
+            best,
+            Seat {
+                number,
+                load: processor.load,
+            },
+        ),
         Standing::Reserved | Standing::Full => best,
     }
 }
@@ -36,7 +42,8 @@ fn considered_seat(best: Option<Seat>, number: usize, processor: Processor) -> O
 impl<'a> Planner<'a> {
     // The least loaded of the open processors, of equal loads the one with the smallest number.
     pub(crate) fn least_loaded(&self) -> Option<Seat>
-        ensures { λ r. ⌜ r ≡ least-loaded (seen (now (self .entry)) .processors) ⌝ }
+        ensures value { λ r. ⌜ r ≡ least-loaded (seen (now (self .entry)) .processors) ⌝ }
+        ensures least { λ r. ⌜ Least-open (seen (now (self .entry)) .processors) r ⌝ }
     {
         let mut best = None;
         for number in 0..self.processors.len() {

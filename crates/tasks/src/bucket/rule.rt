@@ -1,7 +1,7 @@
 // Token buckets as an arrival rule.
 ghost use mathlib.Core.Path.{_≡_};
-ghost use Prim.Native.Nat.{ℕ, _≤_, _<_};
-ghost use lib.ListN.{getD, length};
+ghost use Prim.Native.Nat.{_<_};
+ghost use lib.ListN.{length};
 ghost use Rattle.tasks.specs.Arrivals.{All-subadditive};
 ghost use Rattle.tasks.specs.declared.bucket.Bucket.{Bucket};
 ghost use Rattle.tasks.specs.Buckets.{Bucketed, bucket-curve, bucket-left, off-limits, Each-of};

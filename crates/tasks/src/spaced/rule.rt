@@ -1,6 +1,6 @@
 // Spaced arrivals as an arrival rule.
 ghost use mathlib.Core.Path.{_≡_};
-ghost use Prim.Native.Nat.{ℕ, _-_, _≤_, _<_};
+ghost use Prim.Native.Nat.{ℕ, _-_, _<_};
 ghost use lib.ListN.{getD, length};
 ghost use Rattle.tasks.specs.Arrivals.{All-subadditive};
 ghost use Rattle.tasks.specs.declared.spaced.Spaced.{Spaced};

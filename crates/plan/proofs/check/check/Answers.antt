@@ -41,15 +41,15 @@ returns-in-Break-times g c =
     let room = length (c .args .responses .now) in
     let ps = plan-of (c .args .proposal) in
     let found : check-fault (c .args .set) (c .args .processors) ps before curve room ≡ Some fault =
-      subst (λ (l : List Part). check-fault (c .args .set) (c .args .processors) l before curve room ≡ Some fault) (c .give-up-list .ensures) (c .in-Break-times .ensures tt) in
+    subst (λ (l : List Part). check-fault (c .args .set) (c .args .processors) l before curve room ≡ Some fault) (c .give-up-list .ensures) (c .in-Break-times .ensures tt) in
     let answer : _≡_ {A = Result ℕ PlanFault} (Err fault) (check-answer (c .args .set) (c .args .processors) ps before curve room) =
-      ap (λ (o : Option PlanFault). refused-or o (length ps)) (sym found) in
+    ap (λ (o : Option PlanFault). refused-or o (length ps)) (sym found) in
     rw (p .1, p .2) (record {
       answer = answer;
       times = refl;
       held = refl;
       exact = subst (Exactly-late (c .args .set) (c .args .processors) ps before curve) (sym answer)
-        (exactly-late (c .args .set) (c .args .processors) ps before curve (order-law g (c .args .order)) (g .R·ArrivalRule·met .curves (c .args .rule)) room);
+          (exactly-late (c .args .set) (c .args .processors) ps before curve (order-law g (c .args .order)) (g .R·ArrivalRule·met .curves (c .args .rule)) room);
     })
 
 pub returns : need.returns
@@ -63,13 +63,13 @@ returns g c =
     let judged = subst (λ (l : List Part). Judged (check-fault (c .args .set) (c .args .processors) l before curve room) (system (c .args .set) (c .args .processors) l before curve) l (Ok (c .in-Continue-times .times))) same (c .in-Continue-times .ensures tt) in
     let counted : c .len-count .result ≡ length ps = c .len-count .ensures ∙ ap length same in
     let answer : _≡_ {A = Result ℕ PlanFault} (Ok (c .len-count .result)) (check-answer (c .args .set) (c .args .processors) ps before curve room) =
-      ap (λ (n : ℕ). Ok n) counted ∙ ap (λ (o : Option PlanFault). refused-or o (length ps)) (sym (judged .0)) in
+    ap (λ (n : ℕ). Ok n) counted ∙ ap (λ (o : Option PlanFault). refused-or o (length ps)) (sym (judged .0)) in
     let front : take (length ps) (c .in-Continue-times .times) ≡ response-times sys ps =
-      front-is-map (λ q. valueOr (response-within sys q (q .window)) 0) ps (c .in-Continue-times .times) (omega (arith, judged .1 .1, listed-length (c .give-up-list .result), ap length same, c .give-up-list .result .few)) (judged .1 .2) in
+    front-is-map (λ q. valueOr (response-within sys q (q .window)) 0) ps (c .in-Continue-times .times) (omega (arith, judged .1 .1, listed-length (c .give-up-list .result), ap length same, c .give-up-list .result .few)) (judged .1 .2) in
     record {
       answer = answer;
       times = c .write-times .ensures ∙ ap (λ (n : ℕ). take n (c .in-Continue-times .times) ++ drop n (c .args .responses .now)) counted ∙ ap (λ (l : List ℕ). l ++ drop (length ps) (c .args .responses .now)) front;
       held = (refl, refl, same, refl, refl);
       exact = subst (Exactly-late (c .args .set) (c .args .processors) ps before curve) (sym answer)
-        (exactly-late (c .args .set) (c .args .processors) ps before curve (order-law g (c .args .order)) (g .R·ArrivalRule·met .curves (c .args .rule)) room);
+          (exactly-late (c .args .set) (c .args .processors) ps before curve (order-law g (c .args .order)) (g .R·ArrivalRule·met .curves (c .args .rule)) room);
     }

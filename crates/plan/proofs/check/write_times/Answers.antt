@@ -11,4 +11,4 @@ pub loop-index-again : need.loop-index-again
 loop-index-again c =
     let i = c .loop-index .index in
     rw (add-one i) (ap (λ (l : List ℕ). set l i (getD (c .args .times .now) i 0)) (c .loop-index .inv)
-      ∙ copied-more (c .args .times .now) (c .args .responses .now) i (omega (arith, c .told-times)) (omega arith))
+    ∙ copied-more (c .args .times .now) (c .args .responses .now) i (omega (arith, c .told-times)) (omega arith))

@@ -17,14 +17,15 @@ loop-part-again c =
     let k = c .loop-part .part-index in
     let inv = c .loop-part .inv in
     elim (c .if-part-task .came) [
-      then-part-task w ↦
-        let costs = task-more-in (λ p. p .cost) ps (c .args .task) k (c .loop-part-test .taken) (w .if-part-task .taken) in
-        let windows = task-more-in (λ p. p .window) ps (c .args .task) k (c .loop-part-test .taken) (w .if-part-task .taken) in
-        (inv .0, omega (arith, costs, inv .1, w .cost-is), omega (arith, windows, inv .2, w .window-is), omega (arith, inv .3, w .cost-is), omega (arith, inv .4, w .window-is))
-    | else-part-task w ↦
-        let costs = task-more-out (λ p. p .cost) ps (c .args .task) k (c .loop-part-test .taken) (w .if-part-task .left) in
-        let windows = task-more-out (λ p. p .window) ps (c .args .task) k (c .loop-part-test .taken) (w .if-part-task .left) in
-        (inv .0, omega (arith, costs, inv .1, w .cost-is), omega (arith, windows, inv .2, w .window-is), omega (arith, inv .3, w .cost-is), omega (arith, inv .4, w .window-is)) ]
+      | then-part-task w ↦
+          let costs = task-more-in (λ p. p .cost) ps (c .args .task) k (c .loop-part-test .taken) (w .if-part-task .taken) in
+          let windows = task-more-in (λ p. p .window) ps (c .args .task) k (c .loop-part-test .taken) (w .if-part-task .taken) in
+          (inv .0, omega (arith, costs, inv .1, w .cost-is), omega (arith, windows, inv .2, w .window-is), omega (arith, inv .3, w .cost-is), omega (arith, inv .4, w .window-is))
+      | else-part-task w ↦
+          let costs = task-more-out (λ p. p .cost) ps (c .args .task) k (c .loop-part-test .taken) (w .if-part-task .left) in
+          let windows = task-more-out (λ p. p .window) ps (c .args .task) k (c .loop-part-test .taken) (w .if-part-task .left) in
+          (inv .0, omega (arith, costs, inv .1, w .cost-is), omega (arith, windows, inv .2, w .window-is), omega (arith, inv .3, w .cost-is), omega (arith, inv .4, w .window-is))
+    ]
 
 pub returns : need.returns
 returns c =

@@ -21,7 +21,7 @@ pub returns-then-sum-length : need.returns-then-sum-length
 returns-then-sum-length g c =
     let sys : ℕ → System = λ m. system (c .args .set .now) m (parts-of (c .args .parts .now)) (g .O·PriorityOrder .before (c .args .order .now)) (g .R·ArrivalRule .curve (c .args .rule .now)) in
     let at = λ (m : ℕ). found (sys m) (c .args .part) (curve-laws g (c .args .rule .now)) (as-long (c .args .limit)) (c .loop-length .length)
-        (c .loop-length .inv .0) (omega arith) (omega arith) (c .loop-length .inv .2) in
+    (c .loop-length .inv .0) (omega arith) (omega arith) (c .loop-length .inv .2) in
     record { value = λ m. sym (at m .0); least = λ m. at m .1 }
 
 pub loop-length-again : need.loop-length-again

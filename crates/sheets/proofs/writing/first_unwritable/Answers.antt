@@ -1,6 +1,6 @@
 use native.Mathlib.Omega.{arith}
-use mathlib.Core.Bool.{not, true, false}
-use mathlib.Core.Path.{_≡_, sym, ap, _∙_}
+use mathlib.Core.Bool.{not}
+use mathlib.Core.Path.{sym, ap, _∙_}
 use Rattle.tasks.proofs.Searches.{first-found, first-none}
 use Rattle.sheets.specs.Texts.{unwritable}
 use Rattle.sheets.proofs.writing.first_unwritable.Needs as need

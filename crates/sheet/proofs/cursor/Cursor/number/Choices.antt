@@ -1,5 +1,5 @@
 use mathlib.Core.Path.{_≡_}
-use Prim.Native.Nat.{ℕ, _+_, _^_, _<_, _≤_}
+use Prim.Native.Nat.{_+_, _^_, _<_, _≤_}
 use lib.ListN.{length}
 use Rattle.sheet.specs.Reading.{number, number-on}
 use Rattle.sheet.proofs.cursor.Cursor.number.Given as given

@@ -1,4 +1,4 @@
-use mathlib.Core.Path.{_≡_, sym, ap, subst, _∙_}
+use mathlib.Core.Path.{_≡_, sym, ap, _∙_}
 use mathlib.Core.List.{List, [], _∷_, _++_}
 use native.Mathlib.Omega.{arith}
 use Prim.Native.Nat.{ℕ, _+_, _<_, _≤_}
@@ -17,9 +17,10 @@ loop-i-again c =
     let k : c .loop-i .i < length (c .args .amounts .now) = omega arith in
     let small : length (parts-of (c .loop-i .list)) < 64 = omega arith in
     let new = part-of (getD (c .args .places .now) (c .loop-i .i) none) (getD (c .args .amounts .now) (c .loop-i .i) none) in
-    let e : parts-of (c .push .last .self) ≡ parts-of (c .loop-i .list) ++ (new ∷ []) = c .push .ensures .after ∙ cond-true _ _ _ (c .push .ensures .answer ∙ lt-ltb _ _ small) in
-    ( e ∙ ap (λ (l : List Part). l ++ (new ∷ [])) (c .loop-i .inv .0) ∙ sym (assembled-more (c .args .places .now) (c .args .amounts .now) (c .loop-i .i) h k)
-    , ap length e ∙ length-push (parts-of (c .loop-i .list)) new ∙ ap (λ (n : ℕ). n + 1) (c .loop-i .inv .1))
+    let e : parts-of (c .push .last .self) ≡ parts-of (c .loop-i .list) ++ (new ∷ []) = c .push .ensures .after ∙ cond-true _ _ _ (c .push .ensures .answer ∙ lt-ltb _ _ small) in (
+      e ∙ ap (λ (l : List Part). l ++ (new ∷ [])) (c .loop-i .inv .0) ∙ sym (assembled-more (c .args .places .now) (c .args .amounts .now) (c .loop-i .i) h k),
+      ap length e ∙ length-push (parts-of (c .loop-i .list)) new ∙ ap (λ (n : ℕ). n + 1) (c .loop-i .inv .1),
+    )
 
 pub returns : need.returns
 returns c =

@@ -22,4 +22,3 @@ assemble-requires c κs =
     (c .in-Continue-places .places) (c .pair-line .last .cursor .at) (c .pair-line .last .cursor .rest .now) (c .in-Continue-places .ensures tt)
     (c .in-Continue-amounts .amounts) (c .pair-line-2 .last .cursor .at) (c .pair-line-2 .last .cursor .rest .now) (c .in-Continue-amounts .ensures tt)
     (part-count 0 (c .args .cursor .now .at) (c .args .cursor .now .rest .now) (c .in-Continue-counts .counts) _ _ (c .in-Continue-counts .ensures tt) .1)
-

@@ -1,6 +1,5 @@
 use mathlib.Core.List.{List}
 use mathlib.Core.Path.{_≡_, sym, ap, subst, _∙_}
-use Prim.Native.Nat.{ℕ}
 use lib.ListN.{length, take}
 use Rattle.sheet.specs.declared.symbol.Limits.{Limits}
 use Rattle.sheet.specs.Reading.{told-as}

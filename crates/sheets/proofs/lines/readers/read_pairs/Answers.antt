@@ -1,7 +1,7 @@
 use mathlib.Core.List.{List}
 use mathlib.Core.Path.{_≡_, refl, sym, ap, _∙_}
 use native.Mathlib.Omega.{arith}
-use Prim.Native.Nat.{ℕ, _+_, _-_, _<_, _≤_}
+use Prim.Native.Nat.{ℕ, _+_, _-_, _<_}
 use lib.ListN.{length, take}
 use Rattle.std.proofs.shelf.Lists.{take-more-set, length-set}
 use Rattle.sheet.specs.Reading.{got}
@@ -26,14 +26,15 @@ returns-in-Break-pairs c =
 
 pub loop-i-again : need.loop-i-again
 loop-i-again c =
-    let h : c .loop-i .i < length (c .loop-i .pairs) = omega arith in
-    ( c .loop-i .inv .0
-    ∙ one-pair (c .args .left) (c .args .right) (c .args .count) (c .loop-i .i) (c .loop-i-test .taken) (c .stop-before .result) (c .stop-before .ensures) (c .loop-i .cursor .at) (c .loop-i .cursor .rest .now)
-    (c .expect .last .self .at) (c .expect .last .self .rest .now) (c .in-Continue-pairs .field-0) (c .read-pair .last .cursor .at) (c .read-pair .last .cursor .rest .now)
-    (c .in-Continue-expect .ensures tt .value) (c .in-Continue-pairs .ensures tt) (take (c .loop-i .i) (c .loop-i .pairs))
-    ∙ ap (λ (l : List Pair). after l (pairs (c .args .left) (c .args .right) (c .args .count - (c .loop-i .i + 1)) (c .read-pair .last .cursor .at) (c .read-pair .last .cursor .rest .now)))
-    (sym (take-more-set (c .loop-i .pairs) (c .loop-i .i) (c .in-Continue-pairs .field-0) h))
-    , length-set (c .loop-i .pairs) (c .loop-i .i) (c .in-Continue-pairs .field-0) ∙ c .loop-i .inv .1)
+    let h : c .loop-i .i < length (c .loop-i .pairs) = omega arith in (
+      c .loop-i .inv .0
+          ∙ one-pair (c .args .left) (c .args .right) (c .args .count) (c .loop-i .i) (c .loop-i-test .taken) (c .stop-before .result) (c .stop-before .ensures) (c .loop-i .cursor .at) (c .loop-i .cursor .rest .now)
+          (c .expect .last .self .at) (c .expect .last .self .rest .now) (c .in-Continue-pairs .field-0) (c .read-pair .last .cursor .at) (c .read-pair .last .cursor .rest .now)
+          (c .in-Continue-expect .ensures tt .value) (c .in-Continue-pairs .ensures tt) (take (c .loop-i .i) (c .loop-i .pairs))
+          ∙ ap (λ (l : List Pair). after l (pairs (c .args .left) (c .args .right) (c .args .count - (c .loop-i .i + 1)) (c .read-pair .last .cursor .at) (c .read-pair .last .cursor .rest .now)))
+          (sym (take-more-set (c .loop-i .pairs) (c .loop-i .i) (c .in-Continue-pairs .field-0) h)),
+      length-set (c .loop-i .pairs) (c .loop-i .i) (c .in-Continue-pairs .field-0) ∙ c .loop-i .inv .1,
+    )
 
 pub returns-in-Break-expect-2 : need.returns-in-Break-expect-2
 returns-in-Break-expect-2 c =

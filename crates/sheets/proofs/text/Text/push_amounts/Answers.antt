@@ -1,5 +1,4 @@
 use mathlib.Core.List.{[], _∷_}
-use mathlib.Core.Path.{_≡_}
 use native.Mathlib.Omega.{arith}
 use Prim.Native.Nat.{_+_, _<_, _≤_}
 use lib.ListN.{length, getD}
@@ -19,9 +18,10 @@ loop-part-again c =
     let h : c .loop-part .part-index < length (c .args .parts .now) = omega arith in
     let p = getD (c .args .parts .now) (c .loop-part .part-index) no-part in
     let g = grown (text-of (c .push-pair .last .self)) (text-of (c .loop-part .self)) (32 ∷ amounts-text p) (c .push-pair .ensures) in
-    let s = amounts-short p (c .pre .0 (c .loop-part .part-index) h) in
-    ( line-more amounts-text (c .args .parts .now) (c .loop-part .part-index) (text-of (c .push .last .self)) (text-of (c .loop-part .self)) (text-of (c .push-pair .last .self)) h (c .loop-part .inv .0) (c .push-pair .ensures)
-    , omega arith )
+    let s = amounts-short p (c .pre .0 (c .loop-part .part-index) h) in (
+      line-more amounts-text (c .args .parts .now) (c .loop-part .part-index) (text-of (c .push .last .self)) (text-of (c .loop-part .self)) (text-of (c .push-pair .last .self)) h (c .loop-part .inv .0) (c .push-pair .ensures),
+      omega arith,
+    )
 
 pub push-requires-2 : need.push-requires-2
 push-requires-2 c κs =

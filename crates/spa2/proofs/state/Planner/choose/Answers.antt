@@ -17,7 +17,7 @@ use Rattle.spa2.proofs.state.Planner.choose.Needs as need
 pub returns-in-Some : need.returns-in-Some
 returns-in-Some c =
     let self = c .args .self .now in
-    let found = c .in-Some .ensures tt in
+    let found = c .in-Some .ensures tt .value in
     record {
       value = ap (λ (o : Option Seat). choice-of o (listed (self .reserve))) found;
       after = refl;
@@ -34,7 +34,7 @@ pub returns-in-Some-take-front : need.returns-in-Some-take-front
 returns-in-Some-take-front c =
     let self = c .args .self .now in
     let took = c .in-Some-take-front .ensures tt .after in
-    let none : least-loaded (self .processors .now) ≡ None = sym (c .least-loaded .ensures) ∙ c .in-rest .is in
+    let none : least-loaded (self .processors .now) ≡ None = sym (c .least-loaded .ensures .value) ∙ c .in-rest .is in
     record {
       value = sym (ap (λ (o : Option Seat). choice-of o (listed (self .reserve))) none ∙ ap (λ (ps : List ℕ). front-of ps) took);
       after = ap (λ (ps : List ℕ). with-reserve (seen self) ps) (sym (others-taken _ _ _ took));

@@ -58,7 +58,7 @@ falls c =
     let s = seen (c .loop-piece .self) in
     subst (λ (z : State). (weight z < weight s) × (length (z .parts) + weight z ≤ length (s .parts) + weight s)) (sym (after-turn c))
     (turned-lighter (tasks-of (c .args .set .now)) s (c .in-Some .piece) (listed (c .take-front .last .self)) (c .in-Some-choose .choice)
-      (c .in-Some .ensures tt .after) (sym (c .in-Some-choose .ensures tt .value)) (number-known c))
+    (c .in-Some .ensures tt .after) (sym (c .in-Some-choose .ensures tt .value)) (number-known c))
 
 pub loop-piece-less : need.loop-piece-less
 loop-piece-less c = falls c .0
@@ -67,13 +67,14 @@ pub loop-piece-again : need.loop-piece-again
 loop-piece-again c =
     let t = tasks-of (c .args .set .now) in
     let s = seen (c .loop-piece .self) in
-    let first = seen (c .args .self .now) in
-    ((λ k h.
-      let on = c .loop-piece .inv .0 k h in
-      subst (λ (z : State). (j : ℕ) × (weight z ≤ j) × (turns t k first ≡ turns t j z)) (sym (after-turn c))
-      (turned-same t s (c .in-Some .piece) (listed (c .take-front .last .self)) (c .in-Some-choose .choice) (turns t k first)
-        (c .in-Some .ensures tt .after) (sym (c .in-Some-choose .ensures tt .value)) (number-known c) (on .0) (on .1) (on .2))),
-     omega (arith, falls c .1, c .loop-piece .inv .1))
+    let first = seen (c .args .self .now) in (
+      (λ k h.
+          let on = c .loop-piece .inv .0 k h in
+          subst (λ (z : State). (j : ℕ) × (weight z ≤ j) × (turns t k first ≡ turns t j z)) (sym (after-turn c))
+          (turned-same t s (c .in-Some .piece) (listed (c .take-front .last .self)) (c .in-Some-choose .choice) (turns t k first)
+          (c .in-Some .ensures tt .after) (sym (c .in-Some-choose .ensures tt .value)) (number-known c) (on .0) (on .1) (on .2))),
+      omega (arith, falls c .1, c .loop-piece .inv .1),
+    )
 
 pub returns : need.returns
 returns c k h =

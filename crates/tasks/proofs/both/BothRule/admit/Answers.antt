@@ -1,4 +1,4 @@
-use mathlib.Core.Path.{_≡_, refl}
+use mathlib.Core.Path.{refl}
 use Prim.Native.Nat.{ℕ, _≤_, _<_, min}
 use native.Mathlib.Omega.{arith}
 use Rattle.tasks.specs.Numbers.{as-numbered}
@@ -16,6 +16,6 @@ returns-then-not-is-open g c =
     left-first (g .A·ArrivalRule .curve (s .first) i) (g .A·ArrivalRule .left (s .first) i) (g .A·ArrivalRule·met .curves (s .first) i h) (g .A·ArrivalRule·met .lefts (s .first) i h) in
     record {
       answer = shut-none (min a b) (omega arith) (c .if-not-is-open .ensures tt);
-      curves-stay = λ i L h. refl;
-      left-falls = λ i L h l. refl;
+      curves-stay = λ i L h. refl {a = min (g .A·ArrivalRule .curve (s .first) i L) (g .B·ArrivalRule .curve (s .second) i L)};
+      left-falls = λ i L h l. refl {a = min (g .A·ArrivalRule .left (s .first) i L) (g .B·ArrivalRule .left (s .second) i L)};
     }

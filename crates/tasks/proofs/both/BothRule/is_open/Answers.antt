@@ -1,5 +1,5 @@
-use mathlib.Core.Path.{_≡_, _∙_}
-use Prim.Native.Nat.{ℕ, _≤_, _<_}
+use mathlib.Core.Path.{_∙_}
+use Prim.Native.Nat.{ℕ, _<_}
 use native.Mathlib.Omega.{arith}
 use Rattle.tasks.specs.Numbers.{as-numbered}
 use Rattle.tasks.proofs.Joining.{open-both, shut-first, left-first}

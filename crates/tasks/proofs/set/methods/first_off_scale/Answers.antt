@@ -1,6 +1,6 @@
 use native.Mathlib.Omega.{arith}
 use mathlib.Core.Bool.{Bool, true, false, not, _||_}
-use mathlib.Core.Path.{_≡_, refl, sym, _∙_, ap}
+use mathlib.Core.Path.{_≡_, refl, sym, _∙_}
 use Rattle.tasks.proofs.Searches.{first-found, first-none}
 use Rattle.tasks.specs.Sets.{off-scale}
 use Rattle.tasks.proofs.set.methods.first_off_scale.Needs as need

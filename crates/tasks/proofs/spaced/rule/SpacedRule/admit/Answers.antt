@@ -1,9 +1,8 @@
 use mathlib.Core.Bool.{true, not}
 use mathlib.Core.Path.{_≡_, refl, sym}
-use Prim.Native.Nat.{ℕ, _-_}
+use Prim.Native.Nat.{ℕ}
 use lib.Dec.{eqb}
 use native.Mathlib.Omega.{arith}
-use Rattle.tasks.specs.Numbers.{rounded-up}
 use Rattle.tasks.specs.Spacing.{spacing, waiting, spaced-left}
 use Rattle.tasks.proofs.Spacing.{spaced-open, spaced-falls}
 use Rattle.tasks.proofs.spaced.rule.SpacedRule.admit.Needs as need

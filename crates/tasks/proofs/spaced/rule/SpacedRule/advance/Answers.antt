@@ -1,4 +1,4 @@
-use mathlib.Core.Path.{_≡_, refl}
+use mathlib.Core.Path.{refl}
 use Rattle.tasks.specs.Spacing.{spacing, waiting}
 use Rattle.tasks.proofs.Spacing.{spaced-advances}
 use Rattle.tasks.proofs.spaced.rule.SpacedRule.advance.Needs as need

@@ -1,0 +1,13 @@
+pub mod Placing
+pub mod Tables
+pub mod Ageing
+pub mod States
+pub mod Obeying
+pub mod Bits
+pub mod Readiness
+pub mod Running
+pub mod Ticking
+pub mod Telling
+pub mod Living
+pub mod CallLists
+pub mod Promising

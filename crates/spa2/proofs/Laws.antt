@@ -1,0 +1,10 @@
+pub mod Each
+pub mod Seats
+pub mod Cuts
+pub mod Sums
+pub mod Fair
+pub mod Begun
+pub mod Placed
+pub mod Spans
+pub mod Plain
+pub mod Proposed
