@@ -106,3 +106,13 @@ fn a_job_can_end_early() -> Result<(), Fail> {
     machine.restart();
     runs(&mut machine, 1, 255)
 }
+
+#[test]
+fn a_clock_wears_out() -> Result<(), Fail> {
+    let mut machine = two_tasks()?;
+    machine.clock = 1_099_511_627_776;
+    let mut answer = [7];
+    check_eq(machine.tick(&mut answer), Err(MachineFault::WornOut))?;
+    check_eq(answer, [7])?;
+    check_eq(machine.clock(), 1_099_511_627_776)
+}
