@@ -17,7 +17,8 @@ use Rattle.sheet.proofs.Numerals.{expects, expected-inv, numeral-short}
 use Rattle.sheet.proofs.Scale.{next-both}
 use Rattle.sheets.specs.Grammar.{Tasks, limits, ticks, numbers, number-line, task-lines, task-sheet, plan-lines, both-lines, both-sheets, closed}
 use Rattle.sheets.specs.Laws.{Sheetable, Task-sheetable, Task-sheets-are-texts, Both-are-texts}
-use Rattle.sheets.specs.Texts.{items-text, task-text, plan-text, on-scale}
+use Rattle.sheets.specs.Texts.{items-text, task-text, plan-text}
+use Rattle.tasks.specs.Sets.{on-scale}
 use Rattle.sheets.proofs.Bounds.{Fit, numbers-fit}
 use Rattle.sheets.proofs.Items.{next-got}
 use Rattle.sheets.proofs.PlanSheets.{reads-plan, plan-inv, text-short, whole-inv}

@@ -12,7 +12,8 @@ use Rattle.std.proofs.shelf.Tests.{and-parts, leb-true}
 use Rattle.sheet.specs.Numerals.{numeral}
 use Rattle.schedule.specs.declared.Part.{Part}
 use Rattle.sheets.specs.declared.text.Text.{Text}
-use Rattle.sheets.specs.Texts.{text-of, pair-text, place-text, amounts-text, items-text, listed, plan-text, writable, on-scale, no-part}
+use Rattle.sheets.specs.Texts.{text-of, pair-text, place-text, amounts-text, items-text, listed, plan-text, writable, no-part}
+use Rattle.tasks.specs.Sets.{on-scale}
 
 pub text-length : (t : Text) → length (text-of t) ≡ t .count
 text-length t = length-take-le (t .count) (t .bytes) (omega (arith, t .few, t .sized))

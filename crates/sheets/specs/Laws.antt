@@ -7,7 +7,8 @@ use lib.ListN.{length, getD}
 use Rattle.std.specs.declared.result.Result.the-variants.{Ok}
 use Rattle.schedule.specs.declared.Part.{Part}
 use Rattle.sheets.specs.Grammar.{Tasks, task-sheet, plan-sheet, both-sheets}
-use Rattle.sheets.specs.Texts.{task-text, plan-text, on-scale, writable, written, no-part}
+use Rattle.sheets.specs.Texts.{task-text, plan-text, writable, written, no-part}
+use Rattle.tasks.specs.Sets.{on-scale}
 
 -- A plan that a sheet can hold: 1 to 64 parts, each within the limits of a sheet.
 pub record Sheetable (ps : List Part) : Type 0 where

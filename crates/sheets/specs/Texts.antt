@@ -15,6 +15,7 @@ use Rattle.sheet.specs.Numerals.{numeral}
 use Rattle.schedule.specs.declared.Part.{Part}
 use Rattle.sheets.specs.declared.text.Text.{Text}
 use Rattle.sheets.specs.Grammar.{Tasks}
+use Rattle.tasks.specs.Sets.{on-scale}
 
 abbrev pub text-of : Text → List ℕ
 text-of t = take (t .count) (t .bytes)
@@ -45,10 +46,6 @@ listed f (p ∷ ps) = 32 ∷ (f p ++ listed f ps)
 abbrev pub plan-text : List Part → List ℕ
 plan-text ps =
     75 ∷ 32 ∷ (numeral (length ps) ++ (10 ∷ 80 ∷ (items-text place-text ps ++ (65 ∷ items-text amounts-text ps))))
-
--- Ticks that a sheet can hold.
-abbrev pub on-scale : ℕ → Bool
-on-scale ticks = leb 1 ticks && leb ticks 100000
 
 -- A part that a sheet can hold.
 abbrev pub writable : Part → Bool

@@ -8,20 +8,13 @@ ghost use Rattle.sheets.specs.Grammar.{plan-sheet};
 ghost use Rattle.plan.specs.Faults.{shown};
 ghost use Rattle.sheets.specs.Refusals.{refusal-in, write-refusal};
 ghost use Rattle.sheets.specs.Laws.{Different-sheets};
-ghost use Rattle.sheets.specs.Texts.{on-scale, writable, unwritable, plan-text, written, left-in};
+ghost use Rattle.sheets.specs.Texts.{writable, unwritable, plan-text, written, left-in};
 ghost use Rattle.tasks.specs.Searches.{first-where};
 use crate::text::Text;
 use plan::fault::PlanFault;
 use plan::parts::Proposal;
 use schedule::Part;
-use tasks::set::MAX_TICKS;
-
-// Whether a cost or a window can be read back.
-fn is_on_scale(ticks: u32) -> bool
-    ensures { λ r. ⌜ r ≡ on-scale ticks ⌝ }
-{
-    1 <= ticks && ticks <= MAX_TICKS
-}
+use tasks::set::methods::is_on_scale;
 
 // Whether the part can be read back.
 fn is_writable(part: &Part) -> bool
