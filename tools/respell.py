@@ -55,7 +55,7 @@ for path in ANTT + RT:
         if m:
             for x in m.group(1).split(','):
                 foreign.update(y.strip() for y in x.strip().split(' as '))
-        m = re.match(r"\s*(?:pub )?([A-Za-z][\w'-]*) : [a-z]\w*\.([\w'-]+)\s*$", line)
+        m = re.match(r"\s*(?:abbrev )?(?:pub )?([A-Za-z][\w'-]*) : [a-z]\w*\.([\w'-]+)\s*$", line)
         if m and m.group(1) == m.group(2):
             made.add(m.group(1))
 for path in ANTT:

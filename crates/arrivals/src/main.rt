@@ -1,4 +1,6 @@
 // Shows what becomes of releases where two arrival rules are joined, and that joined curves need not be subadditive.
+#![tactic(auto)]
+
 ghost use Rattle.std.specs.Prelude.{IfOk};
 ghost use Rattle.tasks.specs.Arrivals.{AllSubadditive};
 ghost use Rattle.rules.specs.Buckets.{bucket_curve};

@@ -1,4 +1,6 @@
 // Takes a task sheet from beginning to end and tells a person what was done with it. Arguments name the tasks, in their order.
+#![tactic(auto)]
+
 use console::{KEPT, read_input};
 use parts::fault::PlanFault;
 use parts::lists::Proposal;

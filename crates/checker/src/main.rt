@@ -1,5 +1,7 @@
 // Reads a task sheet with a plan sheet right after it on standard input, and writes R and the response times, or the fault, on
 // standard output.
+#![tactic(auto)]
+
 use console::{KEPT, read_input};
 use parts::fault::PlanFault;
 use parts::lists::MAX_PARTS;

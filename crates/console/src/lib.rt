@@ -1,4 +1,6 @@
 // What the programs share: reading a sheet from standard input.
+#![tactic(auto)]
+
 ghost use Rattle.std.specs.Prelude.{◌≤◌, length, IfOk};
 
 use std::io;

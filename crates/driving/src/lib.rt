@@ -1,4 +1,6 @@
 // Calls given as a list, and what came of each.
+#![tactic(auto)]
+
 use machine::fault::MachineFault;
 use plan::checked::CheckedPlan;
 

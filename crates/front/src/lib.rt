@@ -1,2 +1,4 @@
 // Lists over lent memory.
+#![tactic(auto)]
+
 pub mod lists;

@@ -1,4 +1,6 @@
 // The machine that runs a checked plan, tick by tick.
+#![tactic(auto)]
+
 ghost use Rattle.std.specs.Prelude.{◌≡◌, ℕ, ◌^◌, ◌≤◌, true, length, slice_index_or};
 ghost use Rattle.parts.specs.Parts.{parts_of};
 ghost use Rattle.machine.specs.Jobs.{fits};

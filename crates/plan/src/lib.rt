@@ -1,4 +1,6 @@
 // Plans: how tasks are cut into parts, and how long each part may take to run.
+#![tactic(auto)]
+
 pub mod check;
 pub mod checked;
 pub mod numbers;

@@ -1,4 +1,6 @@
 // Reads a task sheet on standard input and writes the plan sheet, or the fault, on standard output.
+#![tactic(auto)]
+
 ghost use Rattle.std.specs.Prelude.{◌≤◌, length, IfOk};
 
 use console::{KEPT, read_input};

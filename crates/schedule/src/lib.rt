@@ -1,3 +1,5 @@
+#![tactic(auto)]
+
 ghost use Rattle.schedule.specs.Promise.{Sound, Exact};
 ghost use Rattle.schedule.specs.Examples.{Worked};
 

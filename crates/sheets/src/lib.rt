@@ -1,4 +1,6 @@
 // Task sheets and plan sheets: reading both, and writing plan sheets.
+#![tactic(auto)]
+
 use tasks::set::TaskSet;
 
 mod drafts;

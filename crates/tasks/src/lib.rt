@@ -1,4 +1,6 @@
 // Task sets, and the two interfaces over them: priority orders and arrival rules.
+#![tactic(auto)]
+
 pub mod arrival;
 pub mod fault;
 pub mod listed;

@@ -8,8 +8,8 @@ use Rattle.driving.proofs.CallLists.{sys_of}
 use Rattle.driving.proofs.runs.run.Given as goal
 
 -- What was recorded is the tick rule's history of the calls so far, and the machine's state is the one that they leave.
-abbrev pub invariant_loop_i : goal.invariant_loop_i
-invariant_loop_i g l =
+abbrev pub invariant-loop-i : goal.invariant-loop-i
+invariant-loop-i g l =
     let first = l.initial.machine in
     let sys = sys_of g.O.PriorityOrder.before g.R.ArrivalRule.curve first in
     let s = state_of first (g.R.ArrivalRule.left first.rule) in

@@ -3,5 +3,5 @@ use Rattle.machine.specs.Layouts.{word_up_to}
 use Rattle.machine.proofs.ready.ready_words.Given as goal
 
 -- The words of the tasks so far.
-abbrev pub invariant_loop_task : goal.invariant_loop_task
-invariant_loop_task l = (length l.words ≡ 8) × ((p : ℕ) → p < 8 → get_or l.words p 0 ≡ word_up_to l.layout l.table p l.task)
+abbrev pub invariant-loop-task : goal.invariant-loop-task
+invariant-loop-task l = (length l.words ≡ 8) × ((p : ℕ) → p < 8 → get_or l.words p 0 ≡ word_up_to l.layout l.table p l.task)

@@ -3,8 +3,8 @@ use Rattle.machine.proofs.Running.{Names}
 use Rattle.machine.proofs.ready.running_tasks.Given as goal
 
 -- The processors so far are named, and the others idle.
-abbrev pub invariant_loop_processor : goal.invariant_loop_processor
-invariant_loop_processor l =
+abbrev pub invariant-loop-processor : goal.invariant-loop-processor
+invariant-loop-processor l =
     (length l.running ≡ 8)
     × ((p : ℕ) → p < l.processor → Names l.layout l.table p (get_or l.running p 0))
     × ((p : ℕ) → l.processor ≤ p → p < 8 → get_or l.running p 0 ≡ 255)

@@ -4,6 +4,6 @@ use Rattle.parts.specs.Parts.{parts_of}
 use Rattle.plan.specs.Systems.{system}
 use Rattle.plan.proofs.check.first_overlap.Given as goal
 
-abbrev pub invariant_loop_task : goal.invariant_loop_task
-invariant_loop_task g l =
+abbrev pub invariant-loop-task : goal.invariant-loop-task
+invariant-loop-task g l =
     (k : ℕ) → k < l.task → overlap (system l.set l.processors (parts_of l.list) (g.O.PriorityOrder.before l.order) (g.R.ArrivalRule.curve l.rule)) k ≡ false

@@ -3,5 +3,5 @@ use Rattle.plan.specs.Checks.{miscount}
 use Rattle.parts.specs.Parts.{parts_of}
 use Rattle.plan.proofs.numbers.first_miscount.Given as goal
 
-abbrev pub invariant_loop_task : goal.invariant_loop_task
-invariant_loop_task l = (k : ℕ) → k < l.task → miscount l.set (parts_of l.list) k ≡ false
+abbrev pub invariant-loop-task : goal.invariant-loop-task
+invariant-loop-task l = (k : ℕ) → k < l.task → miscount l.set (parts_of l.list) k ≡ false

@@ -5,10 +5,10 @@ use Rattle.plan.proofs.Demand.{ShortOf}
 use Rattle.plan.proofs.response.response_time.Given as goal
 
 -- Every stretch before this one is too short.
-abbrev pub invariant_loop_length : goal.invariant_loop_length
-invariant_loop_length g l =
+abbrev pub invariant-loop-length : goal.invariant-loop-length
+invariant-loop-length g l =
     (1 ≤ l.length) × (l.longest ≤ 1000000)
     × ShortOf (system l.set 0 (parts_of l.parts) (g.O.PriorityOrder.before l.order) (g.R.ArrivalRule.curve l.rule)) l.part l.length
 
-abbrev pub decreases_loop_length : goal.decreases_loop_length
-decreases_loop_length g l = l.longest + 1 - l.length
+abbrev pub decreases-loop-length : goal.decreases-loop-length
+decreases-loop-length g l = l.longest + 1 - l.length

@@ -3,6 +3,6 @@ use Rattle.schedule.specs.Lists.{total, below, one_if}
 use Rattle.tasks.specs.Ranks.{precedes}
 use Rattle.tasks.proofs.ranking.rank.Given as goal
 
-abbrev pub invariant_loop_other : goal.invariant_loop_other
-invariant_loop_other g l =
+abbrev pub invariant-loop-other : goal.invariant-loop-other
+invariant-loop-other g l =
     (l.count ≤ l.other) × (l.count ≡ total (λ j. one_if (precedes (g.O.PriorityOrder.before l.order) l.set j l.task)) (below l.other))

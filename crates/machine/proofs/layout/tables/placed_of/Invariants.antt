@@ -3,5 +3,5 @@ use Rattle.machine.specs.Placing.{placed_at, unplaced}
 use Rattle.machine.proofs.layout.tables.placed_of.Given as goal
 
 -- The parts placed so far.
-abbrev pub invariant_loop_k : goal.invariant_loop_k
-invariant_loop_k l = (length l.placed ≡ 64) × ((j : ℕ) → j < l.k → get_or l.placed j unplaced ≡ placed_at l.parts j)
+abbrev pub invariant-loop-k : goal.invariant-loop-k
+invariant-loop-k l = (length l.placed ≡ 64) × ((j : ℕ) → j < l.k → get_or l.placed j unplaced ≡ placed_at l.parts j)

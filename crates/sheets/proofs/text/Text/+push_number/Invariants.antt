@@ -1,4 +1,4 @@
 use Rattle.sheets.proofs.text.Text.+push_number.Given as goal
 
-abbrev pub decreases_push_number : goal.decreases_push_number
-decreases_push_number l = l.value
+abbrev pub decreases-push_number : goal.decreases-push_number
+decreases-push_number l = l.value

@@ -2,7 +2,7 @@ use Rattle.std.proofs.Common.{◌≡◌, ◌+◌, ◌*◌, ◌≤◌, ◌++◌, 
 use Rattle.sheets.specs.Texts.{text_of, place_text, listed}
 use Rattle.sheets.proofs.text.Text.push_places.Given as goal
 
-abbrev pub invariant_loop_part : goal.invariant_loop_part
-invariant_loop_part l =
+abbrev pub invariant-loop-part : goal.invariant-loop-part
+invariant-loop-part l =
     (text_of l.self ≡ text_of l.initial.self ++ listed place_text (take l.part-index l.parts))
     × (length (text_of l.self) ≤ length (text_of l.initial.self) + 5 * l.part-index)

@@ -6,7 +6,7 @@ use Rattle.spa2.proofs.Visits.{Visiting}
 use Rattle.spa2.proofs.state.Planner.visit_all.Given as goal
 
 -- The tasks still to be visited lead to the same state, and each task visited so far is in reserve or a piece.
-abbrev pub invariant_loop_task : goal.invariant_loop_task
-invariant_loop_task l =
+abbrev pub invariant-loop-task : goal.invariant-loop-task
+invariant-loop-task l =
     (visited_from (tasks_of l.set) (seen l.self) l.task (count_of l.set - l.task) ≡ visited_from (tasks_of l.set) (seen l.initial.self) 0 (count_of l.set))
     × Visiting (seen l.self) l.task
