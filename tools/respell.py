@@ -78,7 +78,7 @@ def turned(path, line):
         name = m.group(0)
         dotted = m.start() > 0 and code[m.start() - 1] == '.'
         # `c.x-y` and `g.x-y` are what the check tells of a goal
-        told = dotted and re.search(r"(^|[\s(,;\[])[cg](\.[\w'-]+)*\.$", code[:m.start()])
+        told = dotted and re.search(r"(^|[\s(,;\[])[cgwl](\.[\w'-]+)*\.$", code[:m.start()])
         if old(name) and name not in foreign and name not in made and not told and (name in own or name in TWINS or (not dotted and path.endswith('.antt') and not CASE.match(name))):
             out.append(code[at:m.start()] + new(name))
             at = m.end()

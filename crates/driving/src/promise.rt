@@ -34,8 +34,8 @@ pub fn drive<O: PriorityOrder + Drop, R: ArrivalRule + Drop>(
     calls: &[Call],
     outcomes: &mut [Outcome],
 ) -> Result<Machine<O, R>, Undriven<O, R>>
-    ensures promise { Promised set processors (plan_of proposal) (before order) (curve rule) calls.now responses.old responses.new outcomes.old outcomes.new (fault_in result) }
-    ensures machine { MatchResult result (λ m. ByOrder m.layout (before m.order) × (m.layout.set ≡ set) × (m.layout.processors ≡ processors) × (parts_of m.layout.list ≡ plan_of proposal) × (m.order ≡ order) × SameCurves (curve rule) (curve m.rule) × Same (system set processors (plan_of proposal) (before order) (curve rule)) (state_of m (left m.rule)) (state_after (system set processors (plan_of proposal) (before order) (curve rule)) (started (system set processors (plan_of proposal) (before order) (curve rule))) (map call_of calls.now))) (λ u. u.place ≡ place) }
+    ensures promise { Promised set processors (plan_of proposal) (O.before order) (R.curve rule) calls.now responses.old responses.new outcomes.old outcomes.new (fault_in result) }
+    ensures machine { MatchResult result (λ m. ByOrder m.layout (O.before m.order) × (m.layout.set ≡ set) × (m.layout.processors ≡ processors) × (parts_of m.layout.list ≡ plan_of proposal) × (m.order ≡ order) × SameCurves (R.curve rule) (R.curve m.rule) × Same (system set processors (plan_of proposal) (O.before order) (R.curve rule)) (state_of m (R.left m.rule)) (state_after (system set processors (plan_of proposal) (O.before order) (R.curve rule)) (started (system set processors (plan_of proposal) (O.before order) (R.curve rule))) (map call_of calls.now))) (λ u. u.place ≡ place) }
 {
     let needed = calls.len();
     if outcomes.len() < needed {

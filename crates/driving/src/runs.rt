@@ -28,9 +28,9 @@ fn outcome_of(answer: Result<(), MachineFault>) -> Outcome
 
 // A tick with a buffer that every plan's bytes fit into.
 fn tick_with_room<O: PriorityOrder, R: ArrivalRule>(machine: &mut Machine<O, R>) -> Outcome
-    requires { ByOrder machine.old.layout (before machine.old.order) }
-    ensures obeyed { Obeyed (system_of machine.old (before machine.old.order) (curve machine.old.rule)) (state_of machine.old (left machine.old.rule)) (rules.tick 8) (outcome_meant machine.old.layout.processors result) (state_of machine.new (left machine.new.rule)) }
-    ensures same { GoesOn machine.old machine.new (curve machine.old.rule) (curve machine.new.rule) }
+    requires { ByOrder machine.old.layout (O.before machine.old.order) }
+    ensures obeyed { Obeyed (system_of machine.old (O.before machine.old.order) (R.curve machine.old.rule)) (state_of machine.old (R.left machine.old.rule)) (rules.tick 8) (outcome_meant machine.old.layout.processors result) (state_of machine.new (R.left machine.new.rule)) }
+    ensures same { GoesOn machine.old machine.new (R.curve machine.old.rule) (R.curve machine.new.rule) }
     ensures own { Own result }
 {
     let mut bytes = [255; 8];
@@ -42,9 +42,9 @@ fn tick_with_room<O: PriorityOrder, R: ArrivalRule>(machine: &mut Machine<O, R>)
 
 // A tick with no buffer, which is too short for every plan.
 fn tick_without_room<O: PriorityOrder, R: ArrivalRule>(machine: &mut Machine<O, R>) -> Outcome
-    requires { ByOrder machine.old.layout (before machine.old.order) }
-    ensures obeyed { Obeyed (system_of machine.old (before machine.old.order) (curve machine.old.rule)) (state_of machine.old (left machine.old.rule)) (rules.tick 0) (outcome_meant machine.old.layout.processors result) (state_of machine.new (left machine.new.rule)) }
-    ensures same { GoesOn machine.old machine.new (curve machine.old.rule) (curve machine.new.rule) }
+    requires { ByOrder machine.old.layout (O.before machine.old.order) }
+    ensures obeyed { Obeyed (system_of machine.old (O.before machine.old.order) (R.curve machine.old.rule)) (state_of machine.old (R.left machine.old.rule)) (rules.tick 0) (outcome_meant machine.old.layout.processors result) (state_of machine.new (R.left machine.new.rule)) }
+    ensures same { GoesOn machine.old machine.new (R.curve machine.old.rule) (R.curve machine.new.rule) }
     ensures own { Own result }
 {
     match machine.tick(&mut []) {
@@ -56,9 +56,9 @@ fn tick_without_room<O: PriorityOrder, R: ArrivalRule>(machine: &mut Machine<O, 
 // A tick with a buffer of so many bytes: one that is too short is refused whatever its length, and of a longer one only the
 // plan's bytes are written.
 fn tick_with<O: PriorityOrder, R: ArrivalRule>(machine: &mut Machine<O, R>, room: usize) -> Outcome
-    requires { ByOrder machine.old.layout (before machine.old.order) }
-    ensures obeyed { Obeyed (system_of machine.old (before machine.old.order) (curve machine.old.rule)) (state_of machine.old (left machine.old.rule)) (rules.tick room) (outcome_meant machine.old.layout.processors result) (state_of machine.new (left machine.new.rule)) }
-    ensures same { GoesOn machine.old machine.new (curve machine.old.rule) (curve machine.new.rule) }
+    requires { ByOrder machine.old.layout (O.before machine.old.order) }
+    ensures obeyed { Obeyed (system_of machine.old (O.before machine.old.order) (R.curve machine.old.rule)) (state_of machine.old (R.left machine.old.rule)) (rules.tick room) (outcome_meant machine.old.layout.processors result) (state_of machine.new (R.left machine.new.rule)) }
+    ensures same { GoesOn machine.old machine.new (R.curve machine.old.rule) (R.curve machine.new.rule) }
     ensures own { Own result }
 {
     if room < machine.processors() {
@@ -70,9 +70,9 @@ fn tick_with<O: PriorityOrder, R: ArrivalRule>(machine: &mut Machine<O, R>, room
 
 // Makes one call.
 fn make_call<O: PriorityOrder, R: ArrivalRule>(machine: &mut Machine<O, R>, call: Call) -> Outcome
-    requires { ByOrder machine.old.layout (before machine.old.order) }
-    ensures obeyed { Obeyed (system_of machine.old (before machine.old.order) (curve machine.old.rule)) (state_of machine.old (left machine.old.rule)) (call_of call) (outcome_meant machine.old.layout.processors result) (state_of machine.new (left machine.new.rule)) }
-    ensures same { GoesOn machine.old machine.new (curve machine.old.rule) (curve machine.new.rule) }
+    requires { ByOrder machine.old.layout (O.before machine.old.order) }
+    ensures obeyed { Obeyed (system_of machine.old (O.before machine.old.order) (R.curve machine.old.rule)) (state_of machine.old (R.left machine.old.rule)) (call_of call) (outcome_meant machine.old.layout.processors result) (state_of machine.new (R.left machine.new.rule)) }
+    ensures same { GoesOn machine.old machine.new (R.curve machine.old.rule) (R.curve machine.new.rule) }
     ensures own { Own result }
 {
     match call {
@@ -88,11 +88,11 @@ pub(crate) fn run<O: PriorityOrder, R: ArrivalRule>(
     calls: &[Call],
     outcomes: &mut [Outcome],
 )
-    requires ranked { ByOrder machine.old.layout (before machine.old.order) }
+    requires ranked { ByOrder machine.old.layout (O.before machine.old.order) }
     requires room { length calls.now ≤ length outcomes.old }
-    ensures told { recorded machine.old.layout.processors calls.now outcomes.new ≡ history (system_of machine.old (before machine.old.order) (curve machine.old.rule)) (state_of machine.old (left machine.old.rule)) (map call_of calls.now) }
-    ensures state { Same (system_of machine.old (before machine.old.order) (curve machine.old.rule)) (state_of machine.new (left machine.new.rule)) (state_after (system_of machine.old (before machine.old.order) (curve machine.old.rule)) (state_of machine.old (left machine.old.rule)) (map call_of calls.now)) }
-    ensures same { GoesOn machine.old machine.new (curve machine.old.rule) (curve machine.new.rule) }
+    ensures told { recorded machine.old.layout.processors calls.now outcomes.new ≡ history (system_of machine.old (O.before machine.old.order) (R.curve machine.old.rule)) (state_of machine.old (R.left machine.old.rule)) (map call_of calls.now) }
+    ensures state { Same (system_of machine.old (O.before machine.old.order) (R.curve machine.old.rule)) (state_of machine.new (R.left machine.new.rule)) (state_after (system_of machine.old (O.before machine.old.order) (R.curve machine.old.rule)) (state_of machine.old (R.left machine.old.rule)) (map call_of calls.now)) }
+    ensures same { GoesOn machine.old machine.new (R.curve machine.old.rule) (R.curve machine.new.rule) }
     ensures own { (k : ℕ) → k < length calls.now → Own (slice_index_or outcomes.new k Taken) }
     ensures rest { drop (length calls.now) outcomes.new ≡ drop (length calls.now) outcomes.old }
 {

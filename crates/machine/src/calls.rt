@@ -27,11 +27,11 @@ impl<O: PriorityOrder, R: ArrivalRule> Machine<O, R> {
     // Starts a machine from a plan that has passed the check: the rule fresh, the clock at 0 and no job open.
     pub fn start(plan: CheckedPlan<O, R>) -> Machine<O, R>
         ensures carried { (result.layout.set ≡ plan.set) × (result.layout.processors ≡ plan.processors) × (result.layout.list ≡ plan.list) × (result.order ≡ plan.order) }
-        ensures curves { SameCurves (curve plan.rule) (curve result.rule) }
-        ensures ranked { ByOrder result.layout (before result.order) }
-        ensures state { Same (system_of result (before result.order) (curve result.rule)) (state_of result (left result.rule)) (started (system_of result (before result.order) (curve result.rule))) }
-        ensures lives { Lives result (before result.order) (curve result.rule) (left result.rule) [] }
-        ensures accepted { verdict plan.set plan.processors (parts_of plan.list) (before plan.order) (curve plan.rule) ≡ None → Accepted result (before result.order) (curve result.rule) }
+        ensures curves { SameCurves (R.curve plan.rule) (R.curve result.rule) }
+        ensures ranked { ByOrder result.layout (O.before result.order) }
+        ensures state { Same (system_of result (O.before result.order) (R.curve result.rule)) (state_of result (R.left result.rule)) (started (system_of result (O.before result.order) (R.curve result.rule))) }
+        ensures lives { Lives result (O.before result.order) (R.curve result.rule) (R.left result.rule) [] }
+        ensures accepted { verdict plan.set plan.processors (parts_of plan.list) (O.before plan.order) (R.curve plan.rule) ≡ None → Accepted result (O.before result.order) (R.curve result.rule) }
     {
         let Carried {
             set,
@@ -57,10 +57,10 @@ impl<O: PriorityOrder, R: ArrivalRule> Machine<O, R> {
 
     // Starts again with the same plan: the rule fresh, the clock at 0 and no job open.
     pub fn restart(&mut self)
-        ensures same { GoesOn self.old self.new (curve self.old.rule) (curve self.new.rule) }
-        ensures state { Same (system_of self.new (before self.new.order) (curve self.new.rule)) (state_of self.new (left self.new.rule)) (started (system_of self.new (before self.new.order) (curve self.new.rule))) }
-        ensures lives { ByOrder self.old.layout (before self.old.order) → Lives self.new (before self.new.order) (curve self.new.rule) (left self.new.rule) [] }
-        ensures accepted { Accepted self.old (before self.old.order) (curve self.old.rule) → Accepted self.new (before self.new.order) (curve self.new.rule) }
+        ensures same { GoesOn self.old self.new (R.curve self.old.rule) (R.curve self.new.rule) }
+        ensures state { Same (system_of self.new (O.before self.new.order) (R.curve self.new.rule)) (state_of self.new (R.left self.new.rule)) (started (system_of self.new (O.before self.new.order) (R.curve self.new.rule))) }
+        ensures lives { ByOrder self.old.layout (O.before self.old.order) → Lives self.new (O.before self.new.order) (R.curve self.new.rule) (R.left self.new.rule) [] }
+        ensures accepted { Accepted self.old (O.before self.old.order) (R.curve self.old.rule) → Accepted self.new (O.before self.new.order) (R.curve self.new.rule) }
     {
         self.rule.fresh();
         self.table = JobTable {
@@ -71,11 +71,11 @@ impl<O: PriorityOrder, R: ArrivalRule> Machine<O, R> {
 
     // Opens a job of the task, where the rule admits its release.
     pub fn release(&mut self, task: usize) -> Result<(), MachineFault>
-        ensures obeyed { Obeyed (system_of self.old (before self.old.order) (curve self.old.rule)) (state_of self.old (left self.old.rule)) (rules.release task) (answer_of result rules.taken) (state_of self.new (left self.new.rule)) }
+        ensures obeyed { Obeyed (system_of self.old (O.before self.old.order) (R.curve self.old.rule)) (state_of self.old (R.left self.old.rule)) (rules.release task) (answer_of result rules.taken) (state_of self.new (R.left self.new.rule)) }
         ensures own { ByMachine result }
-        ensures same { GoesOn self.old self.new (curve self.old.rule) (curve self.new.rule) }
+        ensures same { GoesOn self.old self.new (R.curve self.old.rule) (R.curve self.new.rule) }
         ensures refused { is_ok result ≡ false → self.new ≡ self.old }
-        ensures life { LifeGoesOn self.old self.new (before self.old.order) (before self.new.order) (curve self.old.rule) (curve self.new.rule) (left self.old.rule) (left self.new.rule) (rules.release task) (answer_of result rules.taken) }
+        ensures life { LifeGoesOn self.old self.new (O.before self.old.order) (O.before self.new.order) (R.curve self.old.rule) (R.curve self.new.rule) (R.left self.old.rule) (R.left self.new.rule) (rules.release task) (answer_of result rules.taken) }
     {
         if task >= self.layout.set.count() {
             return Err(MachineFault::Unknown { number: task });
@@ -91,11 +91,11 @@ impl<O: PriorityOrder, R: ArrivalRule> Machine<O, R> {
 
     // Closes the task's job.
     pub fn finish(&mut self, task: usize) -> Result<(), MachineFault>
-        ensures obeyed { Obeyed (system_of self.old (before self.old.order) (curve self.old.rule)) (state_of self.old (left self.old.rule)) (rules.finish task) (answer_of result rules.taken) (state_of self.new (left self.new.rule)) }
+        ensures obeyed { Obeyed (system_of self.old (O.before self.old.order) (R.curve self.old.rule)) (state_of self.old (R.left self.old.rule)) (rules.finish task) (answer_of result rules.taken) (state_of self.new (R.left self.new.rule)) }
         ensures own { ByMachine result }
-        ensures same { GoesOn self.old self.new (curve self.old.rule) (curve self.new.rule) }
+        ensures same { GoesOn self.old self.new (R.curve self.old.rule) (R.curve self.new.rule) }
         ensures refused { is_ok result ≡ false → self.new ≡ self.old }
-        ensures life { LifeGoesOn self.old self.new (before self.old.order) (before self.new.order) (curve self.old.rule) (curve self.new.rule) (left self.old.rule) (left self.new.rule) (rules.finish task) (answer_of result rules.taken) }
+        ensures life { LifeGoesOn self.old self.new (O.before self.old.order) (O.before self.new.order) (R.curve self.old.rule) (R.curve self.new.rule) (R.left self.old.rule) (R.left self.new.rule) (rules.finish task) (answer_of result rules.taken) }
     {
         if task >= self.layout.set.count() {
             return Err(MachineFault::Unknown { number: task });
@@ -111,12 +111,12 @@ impl<O: PriorityOrder, R: ArrivalRule> Machine<O, R> {
     // One tick: each processor runs, of the jobs that are ready there, the one of lowest rank; then every open job grows older. The
     // first bytes of the answer say what each processor runs, 255 for nothing; the bytes after them stay.
     pub fn tick(&mut self, answer: &mut [u8]) -> Result<(), MachineFault>
-        ensures obeyed { ByOrder self.old.layout (before self.old.order) → Obeyed (system_of self.old (before self.old.order) (curve self.old.rule)) (state_of self.old (left self.old.rule)) (rules.tick (length answer.old)) (answer_of result (rules.ran (take self.old.layout.processors answer.new))) (state_of self.new (left self.new.rule)) }
+        ensures obeyed { ByOrder self.old.layout (O.before self.old.order) → Obeyed (system_of self.old (O.before self.old.order) (R.curve self.old.rule)) (state_of self.old (R.left self.old.rule)) (rules.tick (length answer.old)) (answer_of result (rules.ran (take self.old.layout.processors answer.new))) (state_of self.new (R.left self.new.rule)) }
         ensures own { ByMachine result }
-        ensures same { GoesOn self.old self.new (curve self.old.rule) (curve self.new.rule) }
+        ensures same { GoesOn self.old self.new (R.curve self.old.rule) (R.curve self.new.rule) }
         ensures rest { drop self.old.layout.processors answer.new ≡ drop self.old.layout.processors answer.old }
         ensures refused { is_ok result ≡ false → (self.new ≡ self.old) × (answer.new ≡ answer.old) }
-        ensures life { LifeGoesOn self.old self.new (before self.old.order) (before self.new.order) (curve self.old.rule) (curve self.new.rule) (left self.old.rule) (left self.new.rule) (rules.tick (length answer.old)) (answer_of result (rules.ran (take self.old.layout.processors answer.new))) }
+        ensures life { LifeGoesOn self.old self.new (O.before self.old.order) (O.before self.new.order) (R.curve self.old.rule) (R.curve self.new.rule) (R.left self.old.rule) (R.left self.new.rule) (rules.tick (length answer.old)) (answer_of result (rules.ran (take self.old.layout.processors answer.new))) }
     {
         if self.clock >= LAST_CLOCK {
             return Err(MachineFault::WornOut);

@@ -13,7 +13,7 @@ use tasks::order::PriorityOrder;
 impl<O: PriorityOrder, R: ArrivalRule> Machine<O, R> {
     // How many ticks have passed since the start.
     pub fn clock(&self) -> u64
-        ensures { result ≡ (state_of self.now (left self.now.rule)).clock }
+        ensures { result ≡ (state_of self.now (R.left self.now.rule)).clock }
     {
         self.clock
     }
@@ -28,7 +28,7 @@ impl<O: PriorityOrder, R: ArrivalRule> Machine<O, R> {
     // The ready word of a processor: bit r is set where the task of rank r is ready there.
     pub fn ready_word(&self, processor: usize) -> Result<u32, MachineFault>
         ensures known { Asked self.now.layout.processors processor result }
-        ensures word { ByOrder self.now.layout (before self.now.order) → IfOk result (ReadyWord (system_of self.now (before self.now.order) (curve self.now.rule)) (state_of self.now (left self.now.rule)) processor) }
+        ensures word { ByOrder self.now.layout (O.before self.now.order) → IfOk result (ReadyWord (system_of self.now (O.before self.now.order) (R.curve self.now.rule)) (state_of self.now (R.left self.now.rule)) processor) }
     {
         self.word_of(processor)
     }
@@ -36,7 +36,7 @@ impl<O: PriorityOrder, R: ArrivalRule> Machine<O, R> {
     // How many jobs are ready on a processor.
     pub fn ready_count(&self, processor: usize) -> Result<u32, MachineFault>
         ensures known { Asked self.now.layout.processors processor result }
-        ensures count { IfOk result (λ n. n ≡ ready_tasks_on (system_of self.now (before self.now.order) (curve self.now.rule)) (state_of self.now (left self.now.rule)) processor) }
+        ensures count { IfOk result (λ n. n ≡ ready_tasks_on (system_of self.now (O.before self.now.order) (R.curve self.now.rule)) (state_of self.now (R.left self.now.rule)) processor) }
     {
         Ok(self.word_of(processor)?.count_ones())
     }

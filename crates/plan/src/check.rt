@@ -27,7 +27,7 @@ fn is_overlapping<O: PriorityOrder, R: ArrivalRule>(
     task: usize,
 ) -> bool
     requires { number_fault set.now processors (parts_of list.now) ≡ None }
-    ensures { result ≡ overlap (system set.now processors (parts_of list.now) (before order.now) (curve rule.now)) task }
+    ensures { result ≡ overlap (system set.now processors (parts_of list.now) (O.before order.now) (R.curve rule.now)) task }
 {
     rule.curve_at(task, sums(list, task).window) > 1
 }
@@ -41,7 +41,7 @@ fn first_overlap<O: PriorityOrder, R: ArrivalRule>(
     rule: &R,
 ) -> Option<usize>
     requires { number_fault set.now processors (parts_of list.now) ≡ None }
-    ensures { result ≡ first_where (overlap (system set.now processors (parts_of list.now) (before order.now) (curve rule.now))) (count_of set.now) }
+    ensures { result ≡ first_where (overlap (system set.now processors (parts_of list.now) (O.before order.now) (R.curve rule.now))) (count_of set.now) }
 {
     for task in 0..set.count() {
         if is_overlapping(set, processors, list, order, rule, task) {
@@ -59,7 +59,7 @@ fn fault_before_lateness<O: PriorityOrder, R: ArrivalRule>(
     order: &O,
     rule: &R,
 ) -> Option<PlanFault>
-    ensures { result ≡ earlier_fault set.now processors (parts_of list.now) (before order.now) (curve rule.now) }
+    ensures { result ≡ earlier_fault set.now processors (parts_of list.now) (O.before order.now) (R.curve rule.now) }
 {
     if let Some(fault) = fault_of_numbers(set, processors, list) {
         return Some(fault);
@@ -81,7 +81,7 @@ fn time_in_window<O: PriorityOrder, R: ArrivalRule>(
 ) -> Option<u32>
     requires numbers { number_fault set.now processors (parts_of list.now) ≡ None }
     requires within { index < length (parts_of list.now) }
-    ensures { result ≡ response_within (system set.now processors (parts_of list.now) (before order.now) (curve rule.now)) (part_at (parts_of list.now) index) (part_at (parts_of list.now) index).window }
+    ensures { result ≡ response_within (system set.now processors (parts_of list.now) (O.before order.now) (R.curve rule.now)) (part_at (parts_of list.now) index) (part_at (parts_of list.now) index).window }
 {
     let part = list.as_slice()[index];
     response_time(set, list, part, part.window, order, rule)
@@ -96,7 +96,7 @@ fn response_times<O: PriorityOrder, R: ArrivalRule>(
     rule: &R,
 ) -> Result<[u32; 64], usize>
     requires { number_fault set.now processors (parts_of list.now) ≡ None }
-    ensures { Timed (system set.now processors (parts_of list.now) (before order.now) (curve rule.now)) (parts_of list.now) result }
+    ensures { Timed (system set.now processors (parts_of list.now) (O.before order.now) (R.curve rule.now)) (parts_of list.now) result }
 {
     let mut times = [0; 64];
     for index in 0..list.len() {
@@ -117,7 +117,7 @@ fn judge<O: PriorityOrder, R: ArrivalRule>(
     rule: &R,
     room: usize,
 ) -> Result<[u32; 64], PlanFault>
-    ensures { Judged (check_fault set.now processors (parts_of list.now) (before order.now) (curve rule.now) room) (system set.now processors (parts_of list.now) (before order.now) (curve rule.now)) (parts_of list.now) result }
+    ensures { Judged (check_fault set.now processors (parts_of list.now) (O.before order.now) (R.curve rule.now) room) (system set.now processors (parts_of list.now) (O.before order.now) (R.curve rule.now)) (parts_of list.now) result }
 {
     if let Some(fault) = fault_before_lateness(set, processors, list, order, rule) {
         return Err(fault);
@@ -144,7 +144,7 @@ pub fn fault_of<O: PriorityOrder, R: ArrivalRule>(
     rule: &R,
     room: usize,
 ) -> Option<PlanFault>
-    ensures { result ≡ check_fault set.now processors (plan_of proposal.now) (before order.now) (curve rule.now) room }
+    ensures { result ≡ check_fault set.now processors (plan_of proposal.now) (O.before order.now) (R.curve rule.now) room }
 {
     let list = proposal.to_list();
     match judge(set, processors, &list, order, rule, room) {
@@ -176,10 +176,10 @@ pub fn check<O: PriorityOrder + Drop, R: ArrivalRule + Drop>(
     place: &mut CheckedPlan<O, R>,
     responses: &mut [u32],
 ) -> Result<usize, PlanFault>
-    ensures answer { result ≡ check_answer set processors (plan_of proposal) (before order) (curve rule) (length responses.old) }
-    ensures times { responses.new ≡ check_buffer set processors (plan_of proposal) (before order) (curve rule) result responses.old }
+    ensures answer { result ≡ check_answer set processors (plan_of proposal) (O.before order) (R.curve rule) (length responses.old) }
+    ensures times { responses.new ≡ check_buffer set processors (plan_of proposal) (O.before order) (R.curve rule) result responses.old }
     ensures held { MatchResult result (λ _. (place.new.set ≡ set) × (place.new.processors ≡ processors) × (parts_of place.new.list ≡ plan_of proposal) × (place.new.order ≡ order) × (place.new.rule ≡ rule)) (λ _. place.new ≡ place.old) }
-    ensures exact { ExactlyLate set processors (plan_of proposal) (before order) (curve rule) result }
+    ensures exact { ExactlyLate set processors (plan_of proposal) (O.before order) (R.curve rule) result }
 {
     let list = proposal.give_up();
     let times = judge(&set, processors, &list, &order, &rule, responses.len())?;

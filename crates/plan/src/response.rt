@@ -26,7 +26,7 @@ fn interference<O: PriorityOrder, R: ArrivalRule>(
     rule: &R,
 ) -> u64
     requires { length ≤ 1000000 }
-    ensures value { (ps : List Part) → result ≡ share (system set.now 0 ps (before order.now) (curve rule.now)) part length other }
+    ensures value { (ps : List Part) → result ≡ share (system set.now 0 ps (O.before order.now) (R.curve rule.now)) part length other }
     ensures bound { result ≤ 4294967296000000 }
 {
     let task = other.task as usize;
@@ -49,7 +49,7 @@ fn needed<O: PriorityOrder, R: ArrivalRule>(
     rule: &R,
 ) -> u64
     requires { length ≤ 1000000 }
-    ensures { result ≡ demand (system set.now 0 (parts_of parts.now) (before order.now) (curve rule.now)) part length }
+    ensures { result ≡ demand (system set.now 0 (parts_of parts.now) (O.before order.now) (R.curve rule.now)) part length }
 {
     let mut sum = part.cost as u64;
     for other in parts.as_slice() {
@@ -69,8 +69,8 @@ pub fn response_time<O: PriorityOrder, R: ArrivalRule>(
     order: &O,
     rule: &R,
 ) -> Option<u32>
-    ensures value { (m : ℕ) → result ≡ response_within (system set.now m (parts_of parts.now) (before order.now) (curve rule.now)) part (as_long limit) }
-    ensures least { (m : ℕ) → Least (system set.now m (parts_of parts.now) (before order.now) (curve rule.now)) part (as_long limit) result }
+    ensures value { (m : ℕ) → result ≡ response_within (system set.now m (parts_of parts.now) (O.before order.now) (R.curve rule.now)) part (as_long limit) }
+    ensures least { (m : ℕ) → Least (system set.now m (parts_of parts.now) (O.before order.now) (R.curve rule.now)) part (as_long limit) result }
 {
     let longest = limit.min(LONGEST) as u64;
     let mut length = 1;

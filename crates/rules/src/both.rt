@@ -19,17 +19,17 @@ impl<A: ArrivalRule, B: ArrivalRule> Both<A, B> {
     // The two rules joined. Where both have paced curves, the joined curves are paced again, and subadditive.
     pub fn new(first: A, second: B) -> Both<A, B>
         ensures made { (result.first ≡ first) × (result.second ≡ second) }
-        ensures paced { AllPaced (A.ArrivalRule.curve first) → AllPaced (B.ArrivalRule.curve second) → AllPaced (joined (A.ArrivalRule.curve first) (B.ArrivalRule.curve second)) }
-        ensures subadditive { AllPaced (A.ArrivalRule.curve first) → AllPaced (B.ArrivalRule.curve second) → AllSubadditive (joined (A.ArrivalRule.curve first) (B.ArrivalRule.curve second)) }
+        ensures paced { AllPaced (A.curve first) → AllPaced (B.curve second) → AllPaced (joined (A.curve first) (B.curve second)) }
+        ensures subadditive { AllPaced (A.curve first) → AllPaced (B.curve second) → AllSubadditive (joined (A.curve first) (B.curve second)) }
     {
         Both { first, second }
     }
 }
 
 impl<A: ArrivalRule, B: ArrivalRule> ArrivalRule for Both<A, B> {
-    ghost curve = { λ r. joined (A.ArrivalRule.curve r.first) (B.ArrivalRule.curve r.second) };
+    ghost curve = { λ r. joined (A.curve r.first) (B.curve r.second) };
 
-    ghost left = { λ r. joined (A.ArrivalRule.left r.first) (B.ArrivalRule.left r.second) };
+    ghost left = { λ r. joined (A.left r.first) (B.left r.second) };
 
     ghost curves = { λ r i h. joined_lawful _ _ (A.ArrivalRule.curves r.first i h) (B.ArrivalRule.curves r.second i h) };
 

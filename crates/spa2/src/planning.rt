@@ -50,9 +50,9 @@ pub fn plan<O: PriorityOrder, R: ArrivalRule>(
     order: &O,
     rule: &R,
 ) -> Result<Proposal, PlanFault>
-    ensures value { answered result ≡ plan_for set.now processors (before order.now) (curve rule.now) }
-    ensures refusal { IfErr result (λ e. refusal_of (plan_for set.now processors (before order.now) (curve rule.now)) ≡ Some (shown e)) }
-    ensures lawful { IfOk result (λ p. Lawful set.now processors (before order.now) (curve rule.now) (plan_of p)) }
+    ensures value { answered result ≡ plan_for set.now processors (O.before order.now) (R.curve rule.now) }
+    ensures refusal { IfErr result (λ e. refusal_of (plan_for set.now processors (O.before order.now) (R.curve rule.now)) ≡ Some (shown e)) }
+    ensures lawful { IfOk result (λ p. Lawful set.now processors (O.before order.now) (R.curve rule.now) (plan_of p)) }
 {
     let count = checked_count(processors)?;
     let parts = placed_parts(set, count)?;

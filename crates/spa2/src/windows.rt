@@ -38,7 +38,7 @@ fn part_window<O: PriorityOrder, R: ArrivalRule>(
     rule: &R,
 ) -> u32
     requires { length (parts_of done.now) < length (parts_of parts.now) }
-    ensures { result ≡ window_of (tasks_of set.now) (response_within (system set.now 0 (parts_of parts.now) (before order.now) (curve rule.now))) (parts_of done.now) part (drop (length (parts_of done.now) + 1) (parts_of parts.now)) }
+    ensures { result ≡ window_of (tasks_of set.now) (response_within (system set.now 0 (parts_of parts.now) (O.before order.now) (R.curve rule.now))) (parts_of done.now) part (drop (length (parts_of done.now) + 1) (parts_of parts.now)) }
 {
     let period = set.period(part.task as usize);
     let number = done.len();
@@ -56,7 +56,7 @@ pub(crate) fn with_windows<O: PriorityOrder, R: ArrivalRule>(
     order: &O,
     rule: &R,
 ) -> Result<PartList, PlanFault>
-    ensures { listed_parts result ≡ windowed (tasks_of set.now) (response_within (system set.now 0 (parts_of parts.now) (before order.now) (curve rule.now))) (parts_of parts.now) }
+    ensures { listed_parts result ≡ windowed (tasks_of set.now) (response_within (system set.now 0 (parts_of parts.now) (O.before order.now) (R.curve rule.now))) (parts_of parts.now) }
 {
     let mut done = PartList::empty();
     for (number, part) in parts.as_slice().iter().enumerate() {

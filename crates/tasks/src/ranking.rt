@@ -7,8 +7,8 @@ use crate::set::TaskSet;
 
 // How many of the set's tasks go before the task. Under every order ranks tell which task goes first.
 pub fn rank<O: PriorityOrder>(set: &TaskSet, order: &O, task: usize) -> usize
-    ensures value { result ≡ rank_in (before order.now) set.now task }
-    ensures ranked { Ranked (before order.now) set.now }
+    ensures value { result ≡ rank_in (O.before order.now) set.now task }
+    ensures ranked { Ranked (O.before order.now) set.now }
 {
     let key = set.key(task);
     let mut count = 0;

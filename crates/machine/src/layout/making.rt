@@ -21,7 +21,7 @@ impl Layout {
     ) -> Layout
         requires { numbers_pass set processors (parts_of list) ≡ true }
         ensures same { (result.set ≡ set) × (result.processors ≡ processors) × (result.list ≡ list) }
-        ensures ranked { ByOrder result (before order.now) }
+        ensures ranked { ByOrder result (O.before order.now) }
     {
         let parts = list.as_slice();
         let begins = begins_of(parts);

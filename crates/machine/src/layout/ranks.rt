@@ -17,7 +17,7 @@ pub(crate) struct Ranks {
 // The ranks of all tasks of the set.
 pub(crate) fn ranks_of<O: PriorityOrder>(set: &TaskSet, order: &O) -> Ranks
     ensures whole { (length result.ranks ≡ 32) × (length result.by_rank ≡ 32) }
-    ensures value { (i : ℕ) → i < count_of set.now → slice_index result.ranks i ≡ rank_in (before order.now) set.now i }
+    ensures value { (i : ℕ) → i < count_of set.now → slice_index result.ranks i ≡ rank_in (O.before order.now) set.now i }
     ensures low { (i : ℕ) → i < count_of set.now → slice_index result.ranks i < 32 }
     ensures apart { (i : ℕ) → i < count_of set.now → slice_index_or result.by_rank (slice_index result.ranks i) 0 ≡ i }
 {

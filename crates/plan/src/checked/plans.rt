@@ -37,7 +37,7 @@ impl<O, R> CheckedPlan<O, R> {
 impl<O: PriorityOrder, R: ArrivalRule> CheckedPlan<O, R> {
     // The smallest plan: one processor, and one task whose period, cost and window are 1. Every order and every rule accept it.
     pub fn new(order: O, rule: R) -> CheckedPlan<O, R>
-        ensures accepted { verdict result.set result.processors (parts_of result.list) (before result.order) (curve result.rule) ≡ None }
+        ensures accepted { verdict result.set result.processors (parts_of result.list) (O.before result.order) (R.curve result.rule) ≡ None }
         ensures smallest { Holds 1 (λ _. 1) (λ _. 1) result.set × (result.processors ≡ 1) × (parts_of result.list ≡ smallest_parts) }
         ensures carried { (result.order ≡ order) × (result.rule ≡ rule) }
     {

@@ -36,8 +36,8 @@ returns-then-outcomes-needed g c =
     let n = length c.args.calls.now in
     let k = length c.args.outcomes.now in
     let found = check_fault c.args.set c.args.processors ps before curve room in
-    let refused : Some c.match-fault-of.fault ≡ drive_fault found n k =
-    elim c.match-fault-of.branch [
+    let refused : Some c.match-fault_of.fault ≡ drive_fault found n k =
+    elim c.match-fault_of.branch [
       | in-Some w ↦ ap (λ (f : MachineFault). Some f) w.fault-is ∙ ap (λ (o : Option PlanFault). drive_fault o n k) w.in-Some.ensures
       | in-None w ↦ ap (λ (f : MachineFault). Some f) w.fault-is ∙ ap (λ (b : Bool). then_some b (Cramped n)) (sym (lt-ltb k n c.if-outcomes-needed.true)) ∙ ap (λ (o : Option PlanFault). drive_fault o n k) w.in-None.ensures
     ] in
@@ -47,7 +47,7 @@ returns-then-outcomes-needed g c =
         exact = λ passes sub. subst (λ (f : Option MachineFault). (AsLate f → CanBeLate c.args.set c.args.processors ps before curve) × (CanBeLate c.args.set c.args.processors ps before curve → AsLate f)) (sym refused)
             (drive_exact c.args.set c.args.processors ps before curve (g.met.O.PriorityOrder.lawful c.args.order) (g.met.R.ArrivalRule.curves c.args.rule) room n k passes sub);
         untouched = λ f e. (refl, refl);
-        driven = λ e. never c.match-fault-of.fault e;
+        driven = λ e. never c.match-fault_of.fault e;
       };
       machine = refl;
     }

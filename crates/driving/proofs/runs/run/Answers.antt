@@ -28,8 +28,8 @@ below_suc P i below here k h = elim (cases_eq k i) [ inl e ↦ subst P (sym e) h
 ranked_on : (l k : Layout) → k ≡ l → (b : TaskKey → TaskKey → Bool) → ByOrder l b → ByOrder k b
 ranked_on l k e b h = subst (λ (x : Layout). ByOrder x b) (sym e) h
 
-pub make-call-requires : goal.make-call-requires
-make-call-requires g c =
+pub make_call-requires : goal.make_call-requires
+make_call-requires g c =
     let on = c.loop-i.invariant.0 in
     subst (λ (o : g.row.O.Denot). ByOrder c.loop-i.machine.layout (g.O.PriorityOrder.before o)) (sym on.order) (ranked_on c.args.machine.now.layout c.loop-i.machine.layout on.layout (g.O.PriorityOrder.before c.args.machine.now.order) c.requires.ranked)
 
@@ -37,7 +37,7 @@ pub loop-i-preserved : goal.loop-i-preserved
 loop-i-preserved g c =
     let first = c.args.machine.now in
     let now = c.loop-i.machine in
-    let next = c.make-call.new.machine in
+    let next = c.make_call.new.machine in
     let before = g.O.PriorityOrder.before in
     let curve = g.R.ArrivalRule.curve in
     let left = g.R.ArrivalRule.left in
@@ -46,11 +46,11 @@ loop-i-preserved g c =
     let i = c.loop-i.i in
     let calls = c.args.calls.now in
     let call : Call = get_or calls i (Release 0) in
-    let result = c.make-call.result in
+    let result = c.make_call.result in
     let inv = c.loop-i.invariant in
     let t = state_after sys s (map call_of (take i calls)) in
     let m = first.layout.processors in
-    let step = one_more before curve first now next (state_of now (left now.rule)) t (state_of next (left next.rule)) (call_of call) (outcome_meant now.layout.processors result) inv.0 inv.2 c.make-call.ensures.obeyed in
+    let step = one_more before curve first now next (state_of now (left now.rule)) t (state_of next (left next.rule)) (call_of call) (outcome_meant now.layout.processors result) inv.0 inv.2 c.make_call.ensures.obeyed in
     let told : outcome_meant m result ≡ answers sys t (call_of call) = ap (λ (x : Layout). outcome_meant x.processors result) (sym inv.0.layout) ∙ step.0 in
     let grown : take (suc i) calls ≡ take i calls ++ (call ∷ []) = subst (λ (n : ℕ). take n calls ≡ take i calls ++ (call ∷ [])) (add-one i) (take_more calls i (Release 0) c.loop-i-test.true) in
     let h = history_more sys s calls i call grown in
@@ -62,13 +62,13 @@ loop-i-preserved g c =
     ∙ ap (λ (a : Answer). history sys s (map call_of (take i calls)) ++ ((call_of call, a) ∷ [])) told
     ∙ sym h.0 in
     rw (add-one i) (
-      goes_on_trans before curve first now next inv.0 c.make-call.ensures.same,
+      goes_on_trans before curve first now next inv.0 c.make_call.ensures.same,
       record_more,
       subst (Same sys (state_of next (left next.rule))) (sym h.1) step.1,
       rest_more c.loop-i.outcomes c.args.outcomes.now i result inv.3,
       below_suc (λ k. Own (get_or (set c.loop-i.outcomes i result) k Taken)) i
           (λ k h. let ne : k ≢ i = omega arith in subst Own (sym (get_or-set_other c.loop-i.outcomes i k result Taken ne)) (inv.4 k h))
-          (subst Own (sym (get_or-set_same c.loop-i.outcomes i result Taken room)) c.make-call.ensures.own),
+          (subst Own (sym (get_or-set_same c.loop-i.outcomes i result Taken room)) c.make_call.ensures.own),
     )
 
 pub returns : goal.returns

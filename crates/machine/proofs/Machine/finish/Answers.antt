@@ -43,8 +43,8 @@ returns-in-Closed g c =
       life = life_goes_on m _ g.O.PriorityOrder.before _ _ _ _ _ _ (g.met.O.PriorityOrder.lawful m.order) (curve_law g m.rule) goes (λ ranked. obeyed);
     }
 
-pub invariant-of-self : goal.invariant-of-self
-invariant-of-self g c =
+pub invariant_of-self : goal.invariant_of-self
+invariant_of-self g c =
     let m = c.args.self.now in
     let h = c.happen.ensures in (
       length_kept _ m.table.jobs c.args.task _ h.others m.whole,
@@ -57,7 +57,7 @@ returns g c =
     let h = c.happen.ensures in
     let known : c.args.task < count_of m.layout.set = omega (arith, c.count.ensures) in
     let obeyed = Obeying.finished m.layout (g.O.PriorityOrder.before m.order) (g.R.ArrivalRule.curve m.rule) (g.R.ArrivalRule.left m.rule) m.table m.clock
-    c.happen.new.self c.args.task _ known (open_meant (parts_of m.layout.list) _ c.in-default.not-Closed) h.others h.meaning in
+    c.happen.new.self c.args.task _ known (open_meant (parts_of m.layout.list) _ c.in_default.not-Closed) h.others h.meaning in
     record {
       obeyed = obeyed;
       own = tt;

@@ -6,7 +6,7 @@ use Rattle.machine.proofs.Machine.ready_count.Goals as goal
 pub returns : goal.returns
 returns g c =
     let m = c.args.self.now in
-    let e = c.in-ok-word-of.ensures in
+    let e = c.in_ok-word_of.ensures in
     record {
       known = e.known;
       count = ap ones e.word

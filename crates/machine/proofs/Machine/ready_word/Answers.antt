@@ -12,8 +12,8 @@ pub returns : goal.returns
 returns g c =
     let m = c.args.self.now in
     record {
-      known = c.word-of.ensures.known;
+      known = c.word_of.ensures.known;
       word = λ ranked. made_so _ _
           (word_tells m.layout m.table c.args.processor (g.O.PriorityOrder.before m.order) (g.R.ArrivalRule.curve m.rule) (g.R.ArrivalRule.left m.rule) m.clock ranked)
-          c.word-of.result c.word-of.ensures.word;
+          c.word_of.result c.word_of.ensures.word;
     }

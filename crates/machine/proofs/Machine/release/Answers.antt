@@ -35,12 +35,12 @@ returns-then-task-count g c =
       life = life_goes_on m _ g.O.PriorityOrder.before _ _ _ _ _ _ (g.met.O.PriorityOrder.lawful m.order) (curve_law g m.rule) goes (λ ranked. obeyed);
     }
 
-pub returns-then-not-is-open : goal.returns-then-not-is-open
-returns-then-not-is-open g c =
+pub returns-then-not-is_open : goal.returns-then-not-is_open
+returns-then-not-is_open g c =
     let m = c.args.self.now in
     let known : c.args.task < count_of m.layout.set = omega (arith, c.count.ensures) in
     let left = g.R.ArrivalRule.left m.rule in
-    let shut : eqb (left (as_numbered c.args.task) 1) 1 ≡ false = sym c.if-not-is-open.ensures in
+    let shut : eqb (left (as_numbered c.args.task) 1) 1 ≡ false = sym c.if-not-is_open.ensures in
     let ne = eqb-false (left (as_numbered c.args.task) 1) 1 shut in
     let obeyed = Obeying.too_soon m.layout (g.O.PriorityOrder.before m.order) (g.R.ArrivalRule.curve m.rule) left m.table m.clock c.args.task known (omega (arith, most g m.rule c.args.task, ne)) in
     let goes : GoesOn m m (g.R.ArrivalRule.curve m.rule) (g.R.ArrivalRule.curve m.rule) = record { layout = refl; order = refl; curves = λ i L h. refl } in
@@ -58,7 +58,7 @@ returns g c =
     let h = c.happen.ensures in
     let known : c.args.task < count_of m.layout.set = omega (arith, c.count.ensures) in
     let left = g.R.ArrivalRule.left m.rule in
-    let one : left (as_numbered c.args.task) 1 ≡ 1 = eqb-true (left (as_numbered c.args.task) 1) 1 (sym c.if-not-is-open.ensures) in
+    let one : left (as_numbered c.args.task) 1 ≡ 1 = eqb-true (left (as_numbered c.args.task) 1) 1 (sym c.if-not-is_open.ensures) in
     let some : left (as_numbered c.args.task) 1 ≡ 0 → ⊥ = λ z. omega arith in
     let took : is_ok c.admit.result ≡ true = c.admit.ensures.answer ∙ ap not (ne_eqb (left (as_numbered c.args.task) 1) 0 some) in
     let obeyed = Obeying.released m.layout (g.O.PriorityOrder.before m.order) (g.R.ArrivalRule.curve m.rule) left m.table m.clock

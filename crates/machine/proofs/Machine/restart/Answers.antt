@@ -12,8 +12,8 @@ use Rattle.machine.proofs.Living.{born, verdict_kept}
 use Rattle.machine.proofs.States.{closed_all}
 use Rattle.machine.proofs.Machine.restart.Goals as goal
 
-pub invariant-of-self : goal.invariant-of-self
-invariant-of-self g c = (refl, (λ i. ap (fits (parts_of c.args.self.now.layout.list)) (all_same 32 i Closed), omega arith))
+pub invariant_of-self : goal.invariant_of-self
+invariant_of-self g c = (refl, (λ i. ap (fits (parts_of c.args.self.now.layout.list)) (all_same 32 i Closed), omega arith))
 
 pub returns : goal.returns
 returns g c =

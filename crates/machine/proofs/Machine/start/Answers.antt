@@ -13,8 +13,8 @@ use Rattle.machine.proofs.Living.{born, same_plan}
 use Rattle.machine.proofs.States.{closed_all}
 use Rattle.machine.proofs.Machine.start.Goals as goal
 
-pub invariant-of-result : goal.invariant-of-result
-invariant-of-result g c = (refl, (λ i. ap (fits (parts_of c.new-layout.result.list)) (all_same 32 i Closed), omega arith))
+pub invariant_of-result : goal.invariant_of-result
+invariant_of-result g c = (refl, (λ i. ap (fits (parts_of c.new-layout.result.list)) (all_same 32 i Closed), omega arith))
 
 pub returns : goal.returns
 returns g c =

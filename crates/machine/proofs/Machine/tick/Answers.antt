@@ -14,10 +14,10 @@ use Rattle.machine.proofs.Machine.tick.Goals as goal
 curve_law : (g : given.Over) (r : g.row.R.Denot) → LawfulCurves (g.R.ArrivalRule.curve r)
 curve_law g r = g.met.R.ArrivalRule.curves r
 
-pub returns-then-self-ge-LAST-CLOCK : goal.returns-then-self-ge-LAST-CLOCK
-returns-then-self-ge-LAST-CLOCK g c =
+pub returns-then-self-ge-LAST_CLOCK : goal.returns-then-self-ge-LAST_CLOCK
+returns-then-self-ge-LAST_CLOCK g c =
     let m = c.args.self.now in
-    let obeyed = worn_out m.layout (g.O.PriorityOrder.before m.order) (g.R.ArrivalRule.curve m.rule) (g.R.ArrivalRule.left m.rule) m.table m.clock (length c.args.answer.now) c.if-self-ge-LAST-CLOCK.true in
+    let obeyed = worn_out m.layout (g.O.PriorityOrder.before m.order) (g.R.ArrivalRule.curve m.rule) (g.R.ArrivalRule.left m.rule) m.table m.clock (length c.args.answer.now) c.if-self-ge-LAST_CLOCK.true in
     let goes : GoesOn m m (g.R.ArrivalRule.curve m.rule) (g.R.ArrivalRule.curve m.rule) = record { layout = refl; order = refl; curves = λ i L h. refl } in
     record {
       obeyed = λ ranked. obeyed;
@@ -31,7 +31,7 @@ returns-then-self-ge-LAST-CLOCK g c =
 pub returns-then-answer-processors : goal.returns-then-answer-processors
 returns-then-answer-processors g c =
     let m = c.args.self.now in
-    let obeyed = cramped m.layout (g.O.PriorityOrder.before m.order) (g.R.ArrivalRule.curve m.rule) (g.R.ArrivalRule.left m.rule) m.table m.clock (length c.args.answer.now) c.if-self-ge-LAST-CLOCK.false c.if-answer-processors.true in
+    let obeyed = cramped m.layout (g.O.PriorityOrder.before m.order) (g.R.ArrivalRule.curve m.rule) (g.R.ArrivalRule.left m.rule) m.table m.clock (length c.args.answer.now) c.if-self-ge-LAST_CLOCK.false c.if-answer-processors.true in
     let goes : GoesOn m m (g.R.ArrivalRule.curve m.rule) (g.R.ArrivalRule.curve m.rule) = record { layout = refl; order = refl; curves = λ i L h. refl } in
     record {
       obeyed = λ ranked. obeyed;
@@ -45,22 +45,22 @@ returns-then-answer-processors g c =
 pub returns : goal.returns
 returns g c =
     let m = c.args.self.now in
-    let bytes : List ℕ = c.write-answer.new.answer in
-    let long : length bytes ≡ length c.args.answer.now = omega (arith, c.write-answer.auto.answer) in
+    let bytes : List ℕ = c.write_answer.new.answer in
+    let long : length bytes ≡ length c.args.answer.now = omega (arith, c.write_answer.auto.answer) in
     let obeyed : ByOrder m.layout (g.O.PriorityOrder.before m.order) →
     Obeyed (system_of m (g.O.PriorityOrder.before m.order) (g.R.ArrivalRule.curve m.rule)) (state_of m (g.R.ArrivalRule.left m.rule)) (tick (length c.args.answer.now))
-    (ran (take m.layout.processors bytes)) (table_state m.layout c.grow-older.new.self (m.clock + 1) (g.R.ArrivalRule.left c.advance.new.self)) = λ ranked.
+    (ran (take m.layout.processors bytes)) (table_state m.layout c.grow_older.new.self (m.clock + 1) (g.R.ArrivalRule.left c.advance.new.self)) = λ ranked.
     subst (λ (n : ℕ). Obeyed (system_of m (g.O.PriorityOrder.before m.order) (g.R.ArrivalRule.curve m.rule)) (state_of m (g.R.ArrivalRule.left m.rule)) (tick n)
-    (ran (take m.layout.processors bytes)) (table_state m.layout c.grow-older.new.self (m.clock + 1) (g.R.ArrivalRule.left c.advance.new.self))) long
+    (ran (take m.layout.processors bytes)) (table_state m.layout c.grow_older.new.self (m.clock + 1) (g.R.ArrivalRule.left c.advance.new.self))) long
     (tick_obeyed m.layout (g.O.PriorityOrder.before m.order) (g.R.ArrivalRule.curve m.rule) (g.R.ArrivalRule.left m.rule) m.table m.clock
-    c.running-tasks-running.result c.running-tasks-running.ensures.value ranked m.fitting
-    c.grow-older.new.self (g.R.ArrivalRule.left c.advance.new.self) bytes (omega arith) (omega arith)
-    c.write-answer.ensures.written m.whole c.grow-older.ensures.whole c.grow-older.ensures.aged c.advance.ensures.1) in
+    c.running_tasks-running.result c.running_tasks-running.ensures.value ranked m.fitting
+    c.grow_older.new.self (g.R.ArrivalRule.left c.advance.new.self) bytes (omega arith) (omega arith)
+    c.write_answer.ensures.written m.whole c.grow_older.ensures.whole c.grow_older.ensures.aged c.advance.ensures.1) in
     record {
       obeyed = obeyed;
       own = tt;
       same = record { layout = refl; order = refl; curves = c.advance.ensures.0 };
-      rest = c.write-answer.ensures.rest;
+      rest = c.write_answer.ensures.rest;
       refused = λ e. absurd (true≢false e);
       life = life_goes_on m _ g.O.PriorityOrder.before _ _ _ _ _ _ (g.met.O.PriorityOrder.lawful m.order) (curve_law g m.rule) (record { layout = refl; order = refl; curves = c.advance.ensures.0 }) obeyed;
     }

@@ -16,7 +16,7 @@ use Rattle.machine.proofs.Bits.{word_none}
 use Rattle.machine.proofs.Readiness.{WordsSoFar, words_idle, words_ready, ready_ready, ready_not}
 use Rattle.machine.proofs.Tables.{all_same}
 use Rattle.machine.proofs.ready.ready_words.Goals as goal
-use Rattle.machine.proofs.ready.ready_words.Goals.{in-Ready, in-default}
+use Rattle.machine.proofs.ready.ready_words.Goals.{in-Ready, in_default}
 
 pub bounds-words-processor : goal.bounds-words-processor
 bounds-words-processor c = (on_processor c.args.layout.now _ c.in-Ready.age c.in-Ready.left c.in-Ready.part c.in-Ready.is (c.requires.fitting c.loop-task.task)).1
@@ -49,9 +49,9 @@ loop-task-preserved c =
             ap length now ∙ length-set c.loop-task.words q _ ∙ c.loop-task.invariant.0,
             subst (WordsSoFar l table (task + 1)) (sym now) (words_ready l table task q c.loop-task.words c.loop-task.invariant.1 c.loop-task.invariant.0 at.1 (l.low task known) ready),
           )
-      | in-default w ↦ (
+      | in_default w ↦ (
         ap length w.words-is ∙ c.loop-task.invariant.0,
-        subst (WordsSoFar l table (task + 1)) (sym w.words-is) (words_idle l table task c.loop-task.words c.loop-task.invariant.1 (λ p. ready_not ps (get_or table.jobs task Closed) p (c.requires.fitting task) w.in-default.not-Ready)),
+        subst (WordsSoFar l table (task + 1)) (sym w.words-is) (words_idle l table task c.loop-task.words c.loop-task.invariant.1 (λ p. ready_not ps (get_or table.jobs task Closed) p (c.requires.fitting task) w.in_default.not-Ready)),
       )
     ]
 

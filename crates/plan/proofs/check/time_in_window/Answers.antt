@@ -15,5 +15,5 @@ returns g c =
     let sys = system c.args.set.now c.args.processors ps (g.O.PriorityOrder.before c.args.order.now) (g.R.ArrivalRule.curve c.args.rule.now) in
     let short = ((passed c.args.set.now c.args.processors ps c.requires.numbers).scaled k c.requires.within).3 in
     let exact : as_long (part_at ps k).window ≡ (part_at ps k).window = omega (arith, short) in
-    subst (λ (l : List Part). c.response-time.result ≡ response_within sys (part_at l k) (as_long (part_at l k).window)) c.as-slice.ensures (c.response-time.ensures.value c.args.processors)
+    subst (λ (l : List Part). c.response_time.result ≡ response_within sys (part_at l k) (as_long (part_at l k).window)) c.as_slice.ensures (c.response_time.ensures.value c.args.processors)
     ∙ ap (response_within sys (part_at ps k)) exact

@@ -9,7 +9,7 @@ use Rattle.plan.proofs.numbers.sums.Goals.{then-part-task, else-part-task}
 
 pub loop-part-preserved : goal.loop-part-preserved
 loop-part-preserved c =
-    let ps = c.as-slice-part-items.result.now in
+    let ps = c.as_slice-part-items.result.now in
     let k = c.loop-part.part-index in
     let inv = c.loop-part.invariant in
     elim c.if-part-task.branch [
@@ -25,7 +25,7 @@ loop-part-preserved c =
 
 pub returns : goal.returns
 returns c =
-    let whole = take_all c.loop-part.part-index c.as-slice-part-items.result.now c.loop-part-test.false ∙ c.loop-part.invariant.0 in
+    let whole = take_all c.loop-part.part-index c.as_slice-part-items.result.now c.loop-part-test.false ∙ c.loop-part.invariant.0 in
     record {
       cost = c.loop-part.invariant.1 ∙ ap (λ (ps : List Part). work_of ps c.args.task) whole;
       window = c.loop-part.invariant.2 ∙ ap (λ (ps : List Part). span_of ps c.args.task) whole;

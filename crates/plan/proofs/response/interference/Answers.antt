@@ -8,12 +8,12 @@ use Rattle.plan.proofs.Demand.{share_ahead, share_bound}
 use Rattle.plan.proofs.response.interference.Given as given
 use Rattle.plan.proofs.response.interference.Goals as goal
 
-bounded : (g : given.Over) (c : goal.After-struct-known-5·1 g) → c.curve-at.result * c.args.other.cost ≤ 4294967296000000
+bounded : (g : given.Over) (c : goal.After-struct-known-5·1 g) → c.curve_at.result * c.args.other.cost ≤ 4294967296000000
 bounded g c =
     let i = as_numbered c.args.other.task in
     let rule = c.args.rule.now in
     share_bound (g.R.ArrivalRule.curve rule i) (g.met.R.ArrivalRule.curves rule i (omega arith)) (as_long c.args.length) c.args.other.cost
-    c.curve-at.result (omega arith) (omega arith) c.curve-at.ensures
+    c.curve_at.result (omega arith) (omega arith) c.curve_at.ensures
 
 pub overflow-mul-result : goal.overflow-mul-result
 overflow-mul-result g c = omega (arith, bounded g c)
@@ -26,7 +26,7 @@ returns g c = record {
       let curve = g.R.ArrivalRule.curve c.args.rule.now in
       let before = g.O.PriorityOrder.before c.args.order.now in
       let first : before (as_asked (key_of c.args.set.now task)) (as_asked (key_of c.args.set.now c.args.part.task)) ≡ true = cc in
-      ap (λ (n : ℕ). n * c.args.other.cost) (c.curve-at.ensures ∙ ap (curve (as_numbered task)) exact)
+      ap (λ (n : ℕ). n * c.args.other.cost) (c.curve_at.ensures ∙ ap (curve (as_numbered task)) exact)
       ∙ sym (share_ahead (system c.args.set.now 0 ps before curve) c.args.part c.args.other c.args.length (omega arith) first);
   bound = bounded g c;
 }

@@ -29,9 +29,9 @@ holdable p ps e h =
       each = λ i l. not-false _ (none_where (unwritable ps) (length ps) (sym h) i l);
     }
 
-pub of-plan-text-requires : goal.of-plan-text-requires
-of-plan-text-requires c =
-    let s = holdable c.args.plan.now c.parts-parts.result.now c.parts-parts.ensures c.in-default.ensures in
+pub of_plan-text-requires : goal.of_plan-text-requires
+of_plan-text-requires c =
+    let s = holdable c.args.plan.now c.parts-parts.result.now c.parts-parts.ensures c.in_default.ensures in
     (s.each, s.few)
 
 pub returns-in-Some : goal.returns-in-Some
@@ -40,17 +40,17 @@ returns-in-Some c =
 
 pub returns-then-out-needed : goal.returns-then-out-needed
 returns-then-out-needed c =
-    record { answer = search rules; buffer = search rules; refusal = same_refusal shown (Err (Cramped (length c.as-slice-bytes.result.now))) (written (plan_of c.args.plan.now) (length c.args.out.now)) (search rules); read_back = tt; different = different_sheets }
+    record { answer = search rules; buffer = search rules; refusal = same_refusal shown (Err (Cramped (length c.as_slice-bytes.result.now))) (written (plan_of c.args.plan.now) (length c.args.out.now)) (search rules); read_back = tt; different = different_sheets }
 
 pub returns : goal.returns
 returns c = record {
   answer = search rules;
   buffer = search rules;
-  refusal = same_refusal shown (Ok (length c.as-slice-bytes.result.now)) (written (plan_of c.args.plan.now) (length c.args.out.now)) (search rules);
+  refusal = same_refusal shown (Ok (length c.as_slice-bytes.result.now)) (written (plan_of c.args.plan.now) (length c.args.out.now)) (search rules);
   read_back =
-      read_back c.parts-parts.result.now c.as-slice-bytes.result.now c.copy-from-slice.new.self (post_of 0 (length c.as-slice-bytes.result.now - 0) c.args.out.now)
-      (holdable c.args.plan.now c.parts-parts.result.now c.parts-parts.ensures c.in-default.ensures)
-      (c.as-slice-bytes.ensures ∙ c.of-plan-text.ensures) c.copy-from-slice.ensures.after
+      read_back c.parts-parts.result.now c.as_slice-bytes.result.now c.copy_from_slice.new.self (post_of 0 (length c.as_slice-bytes.result.now - 0) c.args.out.now)
+      (holdable c.args.plan.now c.parts-parts.result.now c.parts-parts.ensures c.in_default.ensures)
+      (c.as_slice-bytes.ensures ∙ c.of_plan-text.ensures) c.copy_from_slice.ensures.after
       ∙ ap Ok c.parts-parts.ensures;
   different = different_sheets;
 }

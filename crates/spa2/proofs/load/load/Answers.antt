@@ -5,6 +5,6 @@ use Rattle.std.proofs.Common.{ℕ, ◌*◌, ◌≤◌, sym, subst}
 pub returns : goal.returns
 returns c =
     record {
-      value = c.div-ceil.ensures;
-      bound = subst (λ (r : ℕ). r ≤ c.args.cost * 1000000) (sym c.div-ceil.ensures) (load_crude c.args.cost c.args.period c.requires);
+      value = c.div_ceil.ensures;
+      bound = subst (λ (r : ℕ). r ≤ c.args.cost * 1000000) (sym c.div_ceil.ensures) (load_crude c.args.cost c.args.period c.requires);
     }

@@ -13,23 +13,23 @@ use Rattle.spa2.specs.Windows.{has_part}
 use Rattle.spa2.proofs.Windowing.{window_follows, window_last}
 use Rattle.spa2.proofs.windows.part_window.Goals as goal
 
-pub returns-then-is-listed : goal.returns-then-is-listed
-returns-then-is-listed g c =
+pub returns-then-is_listed : goal.returns-then-is_listed
+returns-then-is_listed g c =
     let set = c.args.set.now in
     let ps = parts_of c.args.parts.now in
     let done = parts_of c.args.done.now in
     let p = c.args.part in
     let n = c.len-number.result in
     let sys = system set 0 ps (g.O.PriorityOrder.before c.args.order.now) (g.R.ArrivalRule.curve c.args.rule.now) in
-    let all = c.as-slice-all.result.now in
+    let all = c.as_slice-all.result.now in
     let end : length all ≤ length all = omega arith in
-    let told : c.is-listed.result ≡ has_part p.task (drop (length done + 1) ps) =
-    c.is-listed.ensures ∙ (ap (λ (qs : List Part). has_part p.task qs) (between_to_end all (n + 1) (length all) end)
-    ∙ (ap (λ (qs : List Part). has_part p.task (drop (n + 1) qs)) c.as-slice-all.ensures ∙ ap (λ (k : ℕ). has_part p.task (drop (k + 1) ps)) c.len-number.ensures)) in
+    let told : c.is_listed.result ≡ has_part p.task (drop (length done + 1) ps) =
+    c.is_listed.ensures ∙ (ap (λ (qs : List Part). has_part p.task qs) (between_to_end all (n + 1) (length all) end)
+    ∙ (ap (λ (qs : List Part). has_part p.task (drop (n + 1) qs)) c.as_slice-all.ensures ∙ ap (λ (k : ℕ). has_part p.task (drop (k + 1) ps)) c.len-number.ensures)) in
     let long : as_long c.period-period.result ≡ period_of set p.task = omega (arith, c.period-period.ensures, (period_scaled set p.task).1) in
-    c.unwrap-or.ensures
-    ∙ (ap (λ (o : Option ℕ). unwrap_or o 0) (c.response-time.ensures.value 0 ∙ ap (λ (L : ℕ). response_within sys p L) long)
-    ∙ sym (window_follows (tasks_of set) (response_within sys) done p (drop (length done + 1) ps) (sym told ∙ c.if-is-listed.true)))
+    c.unwrap_or.ensures
+    ∙ (ap (λ (o : Option ℕ). unwrap_or o 0) (c.response_time.ensures.value 0 ∙ ap (λ (L : ℕ). response_within sys p L) long)
+    ∙ sym (window_follows (tasks_of set) (response_within sys) done p (drop (length done + 1) ps) (sym told ∙ c.if-is_listed.true)))
 
 pub returns : goal.returns
 returns g c =
@@ -39,11 +39,11 @@ returns g c =
     let p = c.args.part in
     let n = c.len-number.result in
     let sys = system set 0 ps (g.O.PriorityOrder.before c.args.order.now) (g.R.ArrivalRule.curve c.args.rule.now) in
-    let all = c.as-slice-all.result.now in
+    let all = c.as_slice-all.result.now in
     let end : length all ≤ length all = omega arith in
-    let told : c.is-listed.result ≡ has_part p.task (drop (length done + 1) ps) =
-    c.is-listed.ensures ∙ (ap (λ (qs : List Part). has_part p.task qs) (between_to_end all (n + 1) (length all) end)
-    ∙ (ap (λ (qs : List Part). has_part p.task (drop (n + 1) qs)) c.as-slice-all.ensures ∙ ap (λ (k : ℕ). has_part p.task (drop (k + 1) ps)) c.len-number.ensures)) in
+    let told : c.is_listed.result ≡ has_part p.task (drop (length done + 1) ps) =
+    c.is_listed.ensures ∙ (ap (λ (qs : List Part). has_part p.task qs) (between_to_end all (n + 1) (length all) end)
+    ∙ (ap (λ (qs : List Part). has_part p.task (drop (n + 1) qs)) c.as_slice-all.ensures ∙ ap (λ (k : ℕ). has_part p.task (drop (k + 1) ps)) c.len-number.ensures)) in
     let span : c.sums.result.window ≡ span_of done p.task = c.sums.ensures.window in
-    let left : c.saturating-sub.result ≡ period_of set p.task - span_of done p.task = omega (arith, c.saturating-sub.ensures, c.period-period.ensures, span) in
-    left ∙ sym (window_last (tasks_of set) (response_within sys) done p (drop (length done + 1) ps) (sym told ∙ c.if-is-listed.false))
+    let left : c.saturating_sub.result ≡ period_of set p.task - span_of done p.task = omega (arith, c.saturating_sub.ensures, c.period-period.ensures, span) in
+    left ∙ sym (window_last (tasks_of set) (response_within sys) done p (drop (length done + 1) ps) (sym told ∙ c.if-is_listed.false))

@@ -13,9 +13,9 @@ use Rattle.front.proofs.Memory.{taken_few}
 use Rattle.spa2.proofs.Windowing.{windowed_on, windowed_squeezed, windowed_all}
 use Rattle.spa2.proofs.windows.with_windows.Goals as goal
 
-pub part-window-window-requires : goal.part-window-window-requires
-part-window-window-requires g c =
-    omega (arith, c.loop-number.invariant.1, ap (λ (qs : List Part). length qs) c.as-slice-part-items.ensures, c.loop-number-test.true)
+pub part_window-window-requires : goal.part_window-window-requires
+part_window-window-requires g c =
+    omega (arith, c.loop-number.invariant.1, ap (λ (qs : List Part). length qs) c.as_slice-part-items.ensures, c.loop-number-test.true)
 
 pub loop-number-preserved : goal.loop-number-preserved
 loop-number-preserved g c =
@@ -23,15 +23,15 @@ loop-number-preserved g c =
     let ps = parts_of c.args.parts.now in
     let done = parts_of c.loop-number.done in
     let k = c.loop-number.number in
-    let w = c.part-window-window.result in
-    let all = c.as-slice-part-items.result.now in
+    let w = c.part_window-window.result in
+    let all = c.as_slice-part-items.result.now in
     let respond = response_within (system set 0 ps (g.O.PriorityOrder.before c.args.order.now) (g.R.ArrivalRule.curve c.args.rule.now)) in
-    let same : all ≡ ps = c.as-slice-part-items.ensures in
+    let same : all ≡ ps = c.as_slice-part-items.ensures in
     let long = ap (λ (qs : List Part). length qs) same in
     let here : k < length ps = omega (arith, long, c.loop-number-test.true) in
     let few : length done < 64 = omega (arith, here, c.loop-number.invariant.1, taken_few c.args.parts.now.parts c.args.parts.now.count, c.args.parts.now.few) in
     let window : w ≡ window_of (tasks_of set) respond done (get_or ps k unused) (drop (k + 1) ps) =
-    c.part-window-window.ensures ∙ (ap (λ (qs : List Part). window_of (tasks_of set) respond done (get_or qs k unused) (drop (length done + 1) ps)) same
+    c.part_window-window.ensures ∙ (ap (λ (qs : List Part). window_of (tasks_of set) respond done (get_or qs k unused) (drop (length done + 1) ps)) same
     ∙ ap (λ (j : ℕ). window_of (tasks_of set) respond done (get_or ps k unused) (drop (j + 1) ps)) c.loop-number.invariant.1) in
     let listed : parts_of c.push.new.self ≡ done ++ (with_own_window (get_or ps k unused) w ∷ []) =
     c.push.ensures.after ∙ (ap (λ (b : Bool). cond b (done ++ (with_own_window (get_or all k unused) w ∷ [])) done) (c.push.ensures.answer ∙ lt-ltb (length done) 64 few)
@@ -47,14 +47,14 @@ returns-then-window-eq0 g c =
     let ps = parts_of c.args.parts.now in
     let done = parts_of c.loop-number.done in
     let k = c.loop-number.number in
-    let w = c.part-window-window.result in
-    let all = c.as-slice-part-items.result.now in
+    let w = c.part_window-window.result in
+    let all = c.as_slice-part-items.result.now in
     let respond = response_within (system set 0 ps (g.O.PriorityOrder.before c.args.order.now) (g.R.ArrivalRule.curve c.args.rule.now)) in
-    let same : all ≡ ps = c.as-slice-part-items.ensures in
+    let same : all ≡ ps = c.as_slice-part-items.ensures in
     let long = ap (λ (qs : List Part). length qs) same in
     let here : k < length ps = omega (arith, long, c.loop-number-test.true) in
     let window : w ≡ window_of (tasks_of set) respond done (get_or ps k unused) (drop (k + 1) ps) =
-    c.part-window-window.ensures ∙ (ap (λ (qs : List Part). window_of (tasks_of set) respond done (get_or qs k unused) (drop (length done + 1) ps)) same
+    c.part_window-window.ensures ∙ (ap (λ (qs : List Part). window_of (tasks_of set) respond done (get_or qs k unused) (drop (length done + 1) ps)) same
     ∙ ap (λ (j : ℕ). window_of (tasks_of set) respond done (get_or ps k unused) (drop (j + 1) ps)) c.loop-number.invariant.1) in
     let fault : ℕ → Result (List Part) PlanFault = λ j. Err (Squeezed j) in
     sym (ap fault c.loop-number.invariant.1)
@@ -65,5 +65,5 @@ returns g c =
     let set = c.args.set.now in
     let ps = parts_of c.args.parts.now in
     let respond = response_within (system set 0 ps (g.O.PriorityOrder.before c.args.order.now) (g.R.ArrivalRule.curve c.args.rule.now)) in
-    let long = ap (λ (qs : List Part). length qs) c.as-slice-part-items.ensures in
+    let long = ap (λ (qs : List Part). length qs) c.as_slice-part-items.ensures in
     sym (windowed_all (tasks_of set) respond (parts_of c.loop-number.done) ps c.loop-number.number (omega (arith, long, c.loop-number-test.false))) ∙ c.loop-number.invariant.0

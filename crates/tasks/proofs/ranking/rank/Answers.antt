@@ -7,7 +7,7 @@ use Rattle.tasks.specs.Sets.{count_of, key_of}
 use Rattle.tasks.specs.declared.order.TaskKey.{TaskKey}
 use Rattle.tasks.specs.declared.set.TaskSet.{TaskSet}
 use Rattle.tasks.proofs.ranking.rank.Goals as goal
-use Rattle.tasks.proofs.ranking.rank.Goals.{then-goes-before, else-goes-before}
+use Rattle.tasks.proofs.ranking.rank.Goals.{then-goes_before, else-goes_before}
 
 as_told : (before : TaskKey → TaskKey → Bool) (set : TaskSet) (a b : ℕ) (k l : TaskKey) (r : Bool) → k ≡ key_of set a → l ≡ key_of set b → r ≡ before (as_asked k) (as_asked l) → r ≡ precedes before set a b
 as_told before set a b k l r ek el e =
@@ -24,12 +24,12 @@ loop-other-preserved g c =
     let before : TaskKey → TaskKey → Bool = g.O.PriorityOrder.before c.args.order.now in
     let s = c.args.set.now in
     let f : ℕ → ℕ = λ j. one_if (precedes before s j c.args.task) in
-    let asked : c.goes-before.result ≡ precedes before s c.loop-other.other c.args.task =
-    as_told before s c.loop-other.other c.args.task c.key.result c.key-key.result c.goes-before.result c.key.ensures c.key-key.ensures c.goes-before.ensures in
-    let e : f c.loop-other.other ≡ one_if c.goes-before.result = ap one_if (sym asked) in
-    elim c.if-goes-before.branch [
-      | then-goes-before w ↦ counted f c.loop-other.other c.loop-other.count c.if-goes-before.count c.goes-before.result c.loop-other.invariant e w.if-goes-before.true w.count_is
-      | else-goes-before w ↦ passed f c.loop-other.other c.loop-other.count c.if-goes-before.count c.goes-before.result c.loop-other.invariant e w.if-goes-before.false w.count_is
+    let asked : c.goes_before.result ≡ precedes before s c.loop-other.other c.args.task =
+    as_told before s c.loop-other.other c.args.task c.key.result c.key-key.result c.goes_before.result c.key.ensures c.key-key.ensures c.goes_before.ensures in
+    let e : f c.loop-other.other ≡ one_if c.goes_before.result = ap one_if (sym asked) in
+    elim c.if-goes_before.branch [
+      | then-goes_before w ↦ counted f c.loop-other.other c.loop-other.count c.if-goes_before.count c.goes_before.result c.loop-other.invariant e w.if-goes_before.true w.count-is
+      | else-goes_before w ↦ passed f c.loop-other.other c.loop-other.count c.if-goes_before.count c.goes_before.result c.loop-other.invariant e w.if-goes_before.false w.count-is
     ]
 
 pub returns : goal.returns

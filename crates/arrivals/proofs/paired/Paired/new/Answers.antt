@@ -5,8 +5,8 @@ use Rattle.arrivals.proofs.paired.Paired.new.Goals as goal
 all : (n i : ℕ) → i < 32 → get_or (replicate 32 n) i 0 ≡ n
 all n i h = get_or-replicate 32 i n 0 h
 
-pub invariant-of-result : goal.invariant-of-result
-invariant-of-result c =
+pub invariant_of-result : goal.invariant_of-result
+invariant_of-result c =
     (refl, (refl, ((λ i h. omega (arith, all 0 i h, all 1 i h)), ((λ i h. omega (arith, all 0 i h, all 1 i h)), ((λ i h. omega (arith, all 1 i h)), tt)))))
 
 pub returns : goal.returns

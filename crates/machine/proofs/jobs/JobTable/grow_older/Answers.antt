@@ -20,7 +20,7 @@ loop-task-preserved c =
     let here : get_or now task Closed ≡ get_or before task Closed = c.loop-task.invariant.3 task (omega arith) in
     let other : (i : ℕ) → (i ≡ task → ⊥) → get_or after i Closed ≡ get_or now i Closed = λ i ne. ap (λ (xs : List Job). get_or xs i Closed) h.others ∙ get_or-set_other now task i _ Closed ne in
     let own : Aged ps running task (get_or before task Closed) (get_or after task Closed) =
-    h.meaning ∙ ap (λ (b : Bool). aged b (meant ps (get_or now task Closed))) c.has-run-ran.ensures
+    h.meaning ∙ ap (λ (b : Bool). aged b (meant ps (get_or now task Closed))) c.has_run-ran.ensures
     ∙ ap (λ (j : Job). aged (ran_by ps running task j) (meant ps j)) here in (
       length_kept after now task _ h.others c.loop-task.invariant.0,
       fits_kept ps after now task _ h.others c.loop-task.invariant.1 h.fitting,

@@ -66,13 +66,13 @@ begun-requires-then-older-end c =
     let r = runs ps c.args.job age c.in-Ready-Tick.left part c.in-Ready-Tick.is-0 c.requires.fitting in
     subst (λ (o : Option ℕ). in_time ps (age + 1) o ≡ true) (sym (Ageing.held l part r.0).next) (Ageing.next_in_time l age part r.0 r.2)
 
-pub returns-in-default-Release : goal.returns-in-default-Release
-returns-in-default-Release c =
+pub returns-in_default-Release : goal.returns-in_default-Release
+returns-in_default-Release c =
     let l = c.args.layout.now in
     let ps = parts_of l.list in
     record {
       meaning = c.begun.ensures.meaning ∙ ap (λ (o : Option ℕ). hand_over 0 (from_part ps o)) (l.firsts c.args.task c.requires.known)
-          ∙ ap (hand_over 0) (sym (segments_first ps c.args.task)) ∙ sym (at_hand ps c.args.task c.args.event Release c.args.job c.args.job c.in-default-Release.is-1 refl);
+          ∙ ap (hand_over 0) (sym (segments_first ps c.args.task)) ∙ sym (at_hand ps c.args.task c.args.event Release c.args.job c.args.job c.in_default-Release.is-1 refl);
       fitting = c.begun.ensures.fitting;
     }
 

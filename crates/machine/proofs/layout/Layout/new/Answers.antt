@@ -14,15 +14,15 @@ use Rattle.machine.proofs.layout.Layout.new.Goals as goal
 runnable : (set : TaskSet) (m : ℕ) (list : PartList) (ps : List Part) → numbers_pass set m (parts_of list) ≡ true → ps ≡ parts_of list → Runnable ps
 runnable set m list ps pass e = subst Runnable (sym e) (passed_runnable set m (parts_of list) (passed_from set m (parts_of list) pass))
 
-pub begins-of-begins-requires : goal.begins-of-begins-requires
-begins-of-begins-requires g c = runnable c.args.set c.args.processors c.args.list c.as-slice-parts.result.now c.requires c.as-slice-parts.ensures
+pub begins_of-begins-requires : goal.begins_of-begins-requires
+begins_of-begins-requires g c = runnable c.args.set c.args.processors c.args.list c.as_slice-parts.result.now c.requires c.as_slice-parts.ensures
 
-pub followers-of-requires : goal.followers-of-requires
-followers-of-requires g c = runnable c.args.set c.args.processors c.args.list c.as-slice-parts.result.now c.requires c.as-slice-parts.ensures
+pub followers_of-requires : goal.followers_of-requires
+followers_of-requires g c = runnable c.args.set c.args.processors c.args.list c.as_slice-parts.result.now c.requires c.as_slice-parts.ensures
 
-pub placed-of-placed-requires : goal.placed-of-placed-requires
-placed-of-placed-requires g c = record {
-  runnable = runnable c.args.set c.args.processors c.args.list c.as-slice-parts.result.now c.requires c.as-slice-parts.ensures;
-  begins = c.begins-of-begins.ensures.value;
-  next = c.followers-of.ensures.next;
+pub placed_of-placed-requires : goal.placed_of-placed-requires
+placed_of-placed-requires g c = record {
+  runnable = runnable c.args.set c.args.processors c.args.list c.as_slice-parts.result.now c.requires c.as_slice-parts.ensures;
+  begins = c.begins_of-begins.ensures.value;
+  next = c.followers_of.ensures.next;
 }

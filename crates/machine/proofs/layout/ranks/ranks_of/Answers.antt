@@ -17,11 +17,11 @@ below_count g c =
     let here : c.loop-task.task < count_of set = omega (arith, c.count-task-end.ensures) in
     omega (arith, c.rank-own.ensures.value, (ranked g c.args.order.now set).within c.loop-task.task here, set.few)
 
-pub bounds-by-rank-own : goal.bounds-by-rank-own
-bounds-by-rank-own g c = below_count g c
+pub bounds-by_rank-own : goal.bounds-by_rank-own
+bounds-by_rank-own g c = below_count g c
 
-pub offset-bounds-by-rank-own : goal.offset-bounds-by-rank-own
-offset-bounds-by-rank-own g c = omega (arith, below_count g c)
+pub offset-bounds-by_rank-own : goal.offset-bounds-by_rank-own
+offset-bounds-by_rank-own g c = omega (arith, below_count g c)
 
 pub loop-task-preserved : goal.loop-task-preserved
 loop-task-preserved g c =

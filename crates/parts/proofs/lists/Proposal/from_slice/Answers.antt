@@ -6,7 +6,7 @@ use Rattle.parts.proofs.lists.Proposal.from_slice.Goals as goal
 
 pub loop-part-preserved : goal.loop-part-preserved
 loop-part-preserved c =
-    let ok : is_ok c.push.result ≡ true = c.is-err.ensures.negation ∙ ap not c.if-is-err.false in
+    let ok : is_ok c.push.result ≡ true = c.is_err.ensures.negation ∙ ap not c.if-is_err.false in
     let unused : Part = record { task = 0; processor = 0; cost = 0; window = 0 } in
     let more = take_more c.args.parts.now c.loop-part.part-index unused c.loop-part-test.true in
     let kept = c.loop-part.invariant in

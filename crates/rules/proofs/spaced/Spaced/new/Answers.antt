@@ -6,8 +6,8 @@ use Rattle.rules.proofs.spaced.Spaced.new.Goals as goal
 
 pub returns : goal.returns
 returns c = record {
-  curves = λ i L h. ap (rounded_up L) (c.periods-of.ensures.copied i h);
-  fresh = λ i L h. let e : L - 0 ≡ L = omega arith in ap (λ n. rounded_up n (get_or c.periods-of.result i 0)) (rw (zeros i) e);
+  curves = λ i L h. ap (rounded_up L) (c.periods_of.ensures.copied i h);
+  fresh = λ i L h. let e : L - 0 ≡ L = omega arith in ap (λ n. rounded_up n (get_or c.periods_of.result i 0)) (rw (zeros i) e);
   paced = all_spaced_paced;
   subadditive = all_spaced_subadditive;
 }

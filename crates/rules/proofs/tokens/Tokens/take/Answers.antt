@@ -15,14 +15,14 @@ ready : (s : Tokens) → true ≡ eqb (tokens_left s 1) 1 → (s.gave ≡ false)
 ready s e = open_means s.refill s.timed s.held s.due s.gave s.later (is_one (tokens_left s 1) e)
 
 pub overflow-sub-self : goal.overflow-sub-self
-overflow-sub-self c = (ready c.args.self.now c.if-not-is-open.ensures).1
+overflow-sub-self c = (ready c.args.self.now c.if-not-is_open.ensures).1
 
 pub returns : goal.returns
 returns c =
     let s = c.args.self.now in
-    let r = ready s c.if-not-is-open.ensures in
+    let r = ready s c.if-not-is_open.ensures in
     record {
-      answer = not_none (tokens_left s 1) (is_one (tokens_left s 1) c.if-not-is-open.ensures);
+      answer = not_none (tokens_left s 1) (is_one (tokens_left s 1) c.if-not-is_open.ensures);
       curves_stay = λ L. refl;
       left_falls = λ L l. gives s.refill s.timed s.held s.due s.gave r.0 r.1 L l;
     }

@@ -8,7 +8,7 @@ returns-then-not-is c =
     record {
       value =
           sym c.loop-rest.invariant.0
-          ∙ stops_here c.args.limits c.args.stop _ _ _ _ c.loop-rest.rest.now c.classify.result (search rules) c.classify.ensures c.in-default-classify.not-Digit
+          ∙ stops_here c.args.limits c.args.stop _ _ _ _ c.loop-rest.rest.now c.classify.result (search rules) c.classify.ensures c.in_default-classify.not-Digit
           ∙ refused_stop c.args.limits c.args.stop c.classify.result _ _ _ c.loop-rest.rest.now c.if-not-is.ensures;
       stays = λ _. c.loop-rest.invariant.4;
       within = tt;
@@ -19,19 +19,19 @@ returns-then-value-limits c =
     record {
       value =
           sym c.loop-rest.invariant.0
-          ∙ stops_here c.args.limits c.args.stop _ _ _ _ c.loop-rest.rest.now c.classify.result (search rules) c.classify.ensures c.in-default-classify.not-Digit
+          ∙ stops_here c.args.limits c.args.stop _ _ _ _ c.loop-rest.rest.now c.classify.result (search rules) c.classify.ensures c.in_default-classify.not-Digit
           ∙ off_scale c.args.limits c.args.stop c.classify.result _ _ _ c.loop-rest.rest.now c.if-not-is.ensures
           (⊎_elim (λ h. inl h) (λ h. inr h.1) c.then-value-limits.either);
       stays = λ _. c.loop-rest.invariant.4;
       within = tt;
     }
 
-pub returns-in-default-classify : goal.returns-in-default-classify
-returns-in-default-classify c =
+pub returns-in_default-classify : goal.returns-in_default-classify
+returns-in_default-classify c =
     record {
       value =
           sym c.loop-rest.invariant.0
-          ∙ stops_here c.args.limits c.args.stop _ _ _ _ c.loop-rest.rest.now c.classify.result (search rules) c.classify.ensures c.in-default-classify.not-Digit
+          ∙ stops_here c.args.limits c.args.stop _ _ _ _ c.loop-rest.rest.now c.classify.result (search rules) c.classify.ensures c.in_default-classify.not-Digit
           ∙ on_scale c.args.limits c.args.stop c.classify.result _ _ _ c.loop-rest.rest.now c.if-not-is.ensures
           c.if-value-limits.false c.if-value-limits-2.false;
       stays = λ e. absurd (true≢false e);

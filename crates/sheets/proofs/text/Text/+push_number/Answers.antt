@@ -5,8 +5,8 @@ use Rattle.sheets.proofs.Texts.{grown, numeral_longer, numeral_one, by_digits, b
 use Rattle.sheets.proofs.text.Text.+push_number.Goals as goal
 use Rattle.sheets.proofs.text.Text.+push_number.Goals.{then-value-ge10, else-value-ge10}
 
-pub push-number-requires : goal.push-number-requires
-push-number-requires t c = (
+pub push_number-requires : goal.push_number-requires
+push_number-requires t c = (
   omega arith,
   (
     omega arith,
@@ -17,13 +17,13 @@ push-number-requires t c = (
 pub push-requires : goal.push-requires
 push-requires t c =
     elim c.if-value-ge10.branch [
-      | then-value-ge10 w ↦ omega (arith, grown (text_of w.push-number.new.self) (text_of c.args.self.now) (numeral (c.args.value / 10)) w.push-number.ensures, ap (λ s. length (text_of s)) w.self-is, numeral_longer c.args.value w.if-value-ge10.true c.requires.0)
+      | then-value-ge10 w ↦ omega (arith, grown (text_of w.push_number.new.self) (text_of c.args.self.now) (numeral (c.args.value / 10)) w.push_number.ensures, ap (λ s. length (text_of s)) w.self-is, numeral_longer c.args.value w.if-value-ge10.true c.requires.0)
       | else-value-ge10 w ↦ omega (arith, ap (λ s. length (text_of s)) w.self-is, numeral_one c.args.value w.if-value-ge10.false)
     ]
 
 pub returns : goal.returns
 returns t c =
     elim c.if-value-ge10.branch [
-      | then-value-ge10 w ↦ by_digits _ _ _ _ c.args.value w.if-value-ge10.true c.requires.0 w.push-number.ensures (ap text_of w.self-is) c.push.ensures
+      | then-value-ge10 w ↦ by_digits _ _ _ _ c.args.value w.if-value-ge10.true c.requires.0 w.push_number.ensures (ap text_of w.self-is) c.push.ensures
       | else-value-ge10 w ↦ by_digit _ _ _ c.args.value w.if-value-ge10.false (ap text_of w.self-is) c.push.ensures
     ]

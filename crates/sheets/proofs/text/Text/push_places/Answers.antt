@@ -3,8 +3,8 @@ use Rattle.sheets.specs.Texts.{text_of, place_text, no_part}
 use Rattle.sheets.proofs.Texts.{grown, place_short, place_room, line_more, line_all}
 use Rattle.sheets.proofs.text.Text.push_places.Goals as goal
 
-pub push-pair-requires : goal.push-pair-requires
-push-pair-requires c =
+pub push_pair-requires : goal.push_pair-requires
+push_pair-requires c =
     let h : c.loop-part.part-index < length c.args.parts.now = omega arith in
     let g = grown (text_of c.push.new.self) (text_of c.args.self.now) (80 ∷ []) c.push.ensures in
     let k : length (text_of c.loop-part.self) + 5 ≤ 1225 = omega arith in
@@ -14,9 +14,9 @@ pub loop-part-preserved : goal.loop-part-preserved
 loop-part-preserved c =
     let h : c.loop-part.part-index < length c.args.parts.now = omega arith in
     let p = get_or c.args.parts.now c.loop-part.part-index no_part in
-    let g = grown (text_of c.push-pair.new.self) (text_of c.loop-part.self) (32 ∷ place_text p) c.push-pair.ensures in
+    let g = grown (text_of c.push_pair.new.self) (text_of c.loop-part.self) (32 ∷ place_text p) c.push_pair.ensures in
     let s = place_short p (c.requires.0 c.loop-part.part-index h) in (
-      line_more place_text c.args.parts.now c.loop-part.part-index (text_of c.push.new.self) (text_of c.loop-part.self) (text_of c.push-pair.new.self) h c.loop-part.invariant.0 c.push-pair.ensures,
+      line_more place_text c.args.parts.now c.loop-part.part-index (text_of c.push.new.self) (text_of c.loop-part.self) (text_of c.push_pair.new.self) h c.loop-part.invariant.0 c.push_pair.ensures,
       omega arith,
     )
 

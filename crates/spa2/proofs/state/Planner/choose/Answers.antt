@@ -19,17 +19,17 @@ returns-in-Some c =
       known = (least_found self.processors.now c.in-Some.seat (sym found)).0;
     }
 
-pub invariant-of-self : goal.invariant-of-self
-invariant-of-self c =
+pub invariant_of-self : goal.invariant_of-self
+invariant_of-self c =
     let self = c.args.self.now in
-    let took = c.take-front.ensures in
-    (self.few, (self.spacious, (took.room ∙ self.roomy, (taken_known _ _ _ c.take-front.result took.after self.known, tt))))
+    let took = c.take_front.ensures in
+    (self.few, (self.spacious, (took.room ∙ self.roomy, (taken_known _ _ _ c.take_front.result took.after self.known, tt))))
 
-pub returns-in-Some-take-front : goal.returns-in-Some-take-front
-returns-in-Some-take-front c =
+pub returns-in-Some-take_front : goal.returns-in-Some-take_front
+returns-in-Some-take_front c =
     let self = c.args.self.now in
-    let took = c.in-Some-take-front.ensures.after in
-    let none : least_loaded_seat self.processors.now ≡ None = sym c.least-loaded.ensures.value ∙ c.in-default.is in
+    let took = c.in-Some-take_front.ensures.after in
+    let none : least_loaded_seat self.processors.now ≡ None = sym c.least_loaded.ensures.value ∙ c.in_default.is in
     record {
       value = sym (ap (λ (o : Option Seat). choice_of o (listed self.reserve)) none ∙ ap (λ (ps : List ℕ). front_of ps) took);
       after = ap (λ (ps : List ℕ). with_reserve (seen self) ps) (sym (others_taken _ _ _ took));

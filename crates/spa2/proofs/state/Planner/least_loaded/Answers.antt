@@ -8,7 +8,7 @@ pub loop-number-preserved : goal.loop-number-preserved
 loop-number-preserved c =
     let xs = c.args.self.now.processors.now in
     let i = c.loop-number.number in
-    ap (λ (b : Option Seat). best_from b (i + 1) (drop (i + 1) xs)) c.considered-seat-best.ensures
+    ap (λ (b : Option Seat). best_from b (i + 1) (drop (i + 1) xs)) c.considered_seat-best.ensures
     ∙ sym (scan_more xs c.loop-number.best i _ c.loop-number-test.true)
     ∙ c.loop-number.invariant
 

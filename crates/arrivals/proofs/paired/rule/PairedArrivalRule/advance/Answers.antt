@@ -7,6 +7,6 @@ returns c =
     let r = c.args.self.now in (
       (λ i L h. refl),
       (λ i L h l.
-          rw (c.count-down.ensures i (omega (arith, r.wide)), c.count-down-2.ensures i (omega (arith, r.deep)))
+          rw (c.count_down.ensures i (omega (arith, r.wide)), c.count_down-2.ensures i (omega (arith, r.deep)))
           (places_advance (get_or r.sooner i 0) (get_or r.later i 0) (r.sorted i h) (r.short i h) L l)),
     )

@@ -9,10 +9,10 @@ answered n e = rw e refl
 pub returns : goal.returns
 returns c =
     let s = c.args.self.now in
-    let t : ℕ = c.task-number-i.result in
-    let v = c.task-number-i.ensures.value in
+    let t : ℕ = c.task_number-i.result in
+    let v = c.task_number-i.ensures.value in
     record {
-      answer = rw (sym v) (answered (spaced_left s t 1) (spaced_open (spacing s t) (waiting s t) (s.lasting t c.task-number-i.ensures.bound) c.if-self-i-gt0.false));
+      answer = rw (sym v) (answered (spaced_left s t 1) (spaced_open (spacing s t) (waiting s t) (s.lasting t c.task_number-i.ensures.bound) c.if-self-i-gt0.false));
       curves_stay = λ i L h. refl;
-      left_falls = λ i L h l. spaced_falls s.periods s.waits t _ v (omega (arith, s.deep)) (s.lasting t c.task-number-i.ensures.bound) c.if-self-i-gt0.false i L;
+      left_falls = λ i L h l. spaced_falls s.periods s.waits t _ v (omega (arith, s.deep)) (s.lasting t c.task_number-i.ensures.bound) c.if-self-i-gt0.false i L;
     }
