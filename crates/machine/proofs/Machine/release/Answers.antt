@@ -63,11 +63,11 @@ returns g c =
     let took : is_ok c.admit.result ≡ true = c.admit.ensures.answer ∙ ap not (ne_eqb (left (as_numbered c.args.task) 1) 0 some) in
     let obeyed = Obeying.released m.layout (g.O.PriorityOrder.before m.order) (g.R.ArrivalRule.curve m.rule) left m.table m.clock
     c.happen.new.self (g.R.ArrivalRule.left c.admit.new.self) c.args.task _ known some
-    (subst (λ b. Admitted b (as_numbered c.args.task) left (g.R.ArrivalRule.left c.admit.new.self)) took c.admit.ensures.left-falls) h.others h.meaning in
+    (subst (λ b. Admitted b (as_numbered c.args.task) left (g.R.ArrivalRule.left c.admit.new.self)) took c.admit.ensures.left_falls) h.others h.meaning in
     record {
       obeyed = obeyed;
       own = tt;
-      same = record { layout = refl; order = refl; curves = c.admit.ensures.curves-stay };
+      same = record { layout = refl; order = refl; curves = c.admit.ensures.curves_stay };
       refused = λ e. absurd (true≢false e);
-      life = life_goes_on m _ g.O.PriorityOrder.before _ _ _ _ _ _ (g.met.O.PriorityOrder.lawful m.order) (curve_law g m.rule) (record { layout = refl; order = refl; curves = c.admit.ensures.curves-stay }) (λ ranked. obeyed);
+      life = life_goes_on m _ g.O.PriorityOrder.before _ _ _ _ _ _ (g.met.O.PriorityOrder.lawful m.order) (curve_law g m.rule) (record { layout = refl; order = refl; curves = c.admit.ensures.curves_stay }) (λ ranked. obeyed);
     }

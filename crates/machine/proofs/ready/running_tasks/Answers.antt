@@ -6,8 +6,8 @@ use Rattle.machine.proofs.Running.{Names, lowest_of, lowest_runs, none_runs, ran
 use Rattle.machine.proofs.ready.running_tasks.Goals as goal
 use Rattle.machine.proofs.ready.running_tasks.Goals.{then-rank-lt-MAX_TASKS, else-rank-lt-MAX_TASKS}
 
-pub overflow-cast-running : goal.overflow-cast-running
-overflow-cast-running c =
+pub overflow_cast-running : goal.overflow_cast-running
+overflow_cast-running c =
     let l = c.args.layout.now in
     let p = c.loop-processor.processor in
     let low = lowest_of l c.args.table.now p (count_trailing_zeros 32 (get_or c.ready_words-words.result p 0)) (get_or c.ready_words-words.result p 0) refl

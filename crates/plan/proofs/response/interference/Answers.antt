@@ -15,8 +15,8 @@ bounded g c =
     share_bound (g.R.ArrivalRule.curve rule i) (g.met.R.ArrivalRule.curves rule i (omega arith)) (as_long c.args.length) c.args.other.cost
     c.curve_at.result (omega arith) (omega arith) c.curve_at.ensures
 
-pub overflow-mul-result : goal.overflow-mul-result
-overflow-mul-result g c = omega (arith, bounded g c)
+pub overflow_mul-result : goal.overflow_mul-result
+overflow_mul-result g c = omega (arith, bounded g c)
 
 pub returns : goal.returns
 returns g c = record {

@@ -36,8 +36,8 @@ begun-requires c =
     let l = c.args.layout.now in
     subst (λ (o : Option ℕ). in_time (parts_of l.list) 0 o ≡ true) (sym (l.firsts c.args.task c.requires.known)) (Ageing.first_in_time l c.args.task)
 
-pub overflow-add-age : goal.overflow-add-age
-overflow-add-age c =
+pub overflow_add-age : goal.overflow_add-age
+overflow_add-age c =
     let l = c.args.layout.now in
     let w = waits (parts_of l.list) c.args.job c.in-Waiting-Tick.age c.in-Waiting-Tick.part c.in-Waiting-Tick.is-0 c.requires.fitting in
     omega (arith, w.1, Ageing.part_wide l c.in-Waiting-Tick.part w.0, Ageing.part_early l c.in-Waiting-Tick.part w.0)
@@ -54,8 +54,8 @@ older l job age left part e f =
     let r = runs (parts_of l.list) job age left part e f in
     omega (arith, r.2, Ageing.part_early l part r.0)
 
-pub overflow-add-older : goal.overflow-add-older
-overflow-add-older c = omega (arith, older c.args.layout.now c.args.job c.in-Ready-Tick.age c.in-Ready-Tick.left c.in-Ready-Tick.part c.in-Ready-Tick.is-0 c.requires.fitting)
+pub overflow_add-older : goal.overflow_add-older
+overflow_add-older c = omega (arith, older c.args.layout.now c.args.job c.in-Ready-Tick.age c.in-Ready-Tick.left c.in-Ready-Tick.part c.in-Ready-Tick.is-0 c.requires.fitting)
 
 pub begun-requires-then-older-end : goal.begun-requires-then-older-end
 begun-requires-then-older-end c =

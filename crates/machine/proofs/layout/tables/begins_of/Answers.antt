@@ -5,8 +5,8 @@ use Rattle.machine.specs.Placing.{begin_at}
 use Rattle.machine.proofs.Tables.{all_same, spans_more}
 use Rattle.machine.proofs.layout.tables.begins_of.Goals as goal
 
-pub overflow-add-spans : goal.overflow-add-spans
-overflow-add-spans c =
+pub overflow_add-spans : goal.overflow_add-spans
+overflow_add-spans c =
     let k = c.loop-k.k in
     let task = (part_at c.args.parts.now k).task in
     let sound = c.requires.1 k c.loop-k-test.true in

@@ -6,8 +6,8 @@ use Rattle.machine.specs.declared.placed.PlacedPart.{PlacedPart}
 use Rattle.machine.proofs.Tables.{span_bound}
 use Rattle.machine.proofs.layout.tables.placed_of.Goals as goal
 
-pub overflow-add-end : goal.overflow-add-end
-overflow-add-end c =
+pub overflow_add-end : goal.overflow_add-end
+overflow_add-end c =
     let ps = c.args.parts.now in
     let k = c.loop-k.k in
     let h = c.loop-k-test.true in

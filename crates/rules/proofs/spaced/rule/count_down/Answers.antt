@@ -5,7 +5,7 @@ use Rattle.rules.proofs.spaced.rule.count_down.Goals as goal
 
 pub returns : goal.returns
 returns c i =
-    elim (cases_lt i c.loop-count.count_index) [
+    elim (cases_lt i c.loop-count.count-index) [
       | inl h ↦ c.loop-count.invariant.0 i h
       | inr h ↦ omega (arith, c.loop-count.invariant.1 i h, get_or_past c.args.counts.now i 0 (omega arith))
     ]

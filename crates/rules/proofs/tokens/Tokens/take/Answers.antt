@@ -14,8 +14,8 @@ not_none n e = rw e refl
 ready : (s : Tokens) → true ≡ eqb (tokens_left s 1) 1 → (s.gave ≡ false) × (1 ≤ s.held)
 ready s e = open_means s.refill s.timed s.held s.due s.gave s.later (is_one (tokens_left s 1) e)
 
-pub overflow-sub-self : goal.overflow-sub-self
-overflow-sub-self c = (ready c.args.self.now c.if-not-is_open.ensures).1
+pub overflow_sub-self : goal.overflow_sub-self
+overflow_sub-self c = (ready c.args.self.now c.if-not-is_open.ensures).1
 
 pub returns : goal.returns
 returns c =

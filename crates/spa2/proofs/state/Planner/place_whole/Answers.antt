@@ -7,8 +7,8 @@ use Rattle.spa2.specs.Seen.{seen}
 use Rattle.spa2.proofs.Table.{theta_whole}
 use Rattle.spa2.proofs.state.Planner.place_whole.Goals as goal
 
-pub overflow-add-load : goal.overflow-add-load
-overflow-add-load c =
+pub overflow_add-load : goal.overflow_add-load
+overflow_add-load c =
     let s = seen c.args.self.now in
     let set = c.args.set.now in
     let x = c.args.piece in

@@ -16,7 +16,7 @@ returns c =
     let read : get_or s.buckets t x ≡ get_or s.buckets t spare = get_or_default s.buckets t x spare h in
     record {
       answer = c.take-answer.ensures.answer ∙ ap (λ (y : Tokens). not (eqb (tokens_left y 1) 0)) read ∙ ap (λ i. not (eqb (bucket_left s i 1) 0)) c.task_number-i.ensures.value;
-      curves_stay = λ i L _. curves_kept s.buckets t new (one_changed SameTokens s.buckets t x new h c.take-answer.ensures.curves-stay) i L;
+      curves_stay = λ i L _. curves_kept s.buckets t new (one_changed SameTokens s.buckets t x new h c.take-answer.ensures.curves_stay) i L;
       left_falls = λ i L _ l. left_changed s.buckets t _ new (is_ok c.take-answer.result) c.task_number-i.ensures.value
-          (one_changed (Taken (is_ok c.take-answer.result)) s.buckets t x new h c.take-answer.ensures.left-falls) i L l;
+          (one_changed (Taken (is_ok c.take-answer.result)) s.buckets t x new h c.take-answer.ensures.left_falls) i L l;
     }
