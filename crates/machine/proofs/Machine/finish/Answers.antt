@@ -46,10 +46,12 @@ returns-in-Closed g c =
 pub invariant_of-self : goal.invariant_of-self
 invariant_of-self g c =
     let m = c.args.self.now in
-    let h = c.happen.ensures in (
-      length_kept _ m.table.jobs c.args.task _ h.others m.whole,
-      (fits_kept (parts_of m.layout.list) _ m.table.jobs c.args.task _ h.others m.fitting h.fitting, (m.early, tt)),
-    )
+    let h = c.happen.ensures in
+    record {
+      whole = length_kept _ m.table.jobs c.args.task _ h.others m.whole;
+      fitting = fits_kept (parts_of m.layout.list) _ m.table.jobs c.args.task _ h.others m.fitting h.fitting;
+      early = m.early;
+    }
 
 pub returns : goal.returns
 returns g c =

@@ -13,7 +13,7 @@ use Rattle.machine.proofs.States.{closed_all}
 use Rattle.machine.proofs.Machine.restart.Goals as goal
 
 pub invariant_of-self : goal.invariant_of-self
-invariant_of-self g c = (refl, (λ i. ap (fits (parts_of c.args.self.now.layout.list)) (all_same 32 i Closed), omega arith))
+invariant_of-self g c = record { whole = refl; fitting = λ i. ap (fits (parts_of c.args.self.now.layout.list)) (all_same 32 i Closed); early = omega arith }
 
 pub returns : goal.returns
 returns g c =

@@ -14,7 +14,7 @@ use Rattle.machine.proofs.States.{closed_all}
 use Rattle.machine.proofs.Machine.start.Goals as goal
 
 pub invariant_of-result : goal.invariant_of-result
-invariant_of-result g c = (refl, (λ i. ap (fits (parts_of c.new-layout.result.list)) (all_same 32 i Closed), omega arith))
+invariant_of-result g c = record { whole = refl; fitting = λ i. ap (fits (parts_of c.new-layout.result.list)) (all_same 32 i Closed); early = omega arith }
 
 pub returns : goal.returns
 returns g c =

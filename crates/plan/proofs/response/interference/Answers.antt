@@ -8,7 +8,7 @@ use Rattle.plan.proofs.Demand.{share_ahead, share_bound}
 use Rattle.plan.proofs.response.interference.Given as given
 use Rattle.plan.proofs.response.interference.Goals as goal
 
-bounded : (g : given.Over) (c : goal.After-struct-known-5·1 g) → c.curve_at.result * c.args.other.cost ≤ 4294967296000000
+bounded : (g : given.Over) (c : goal.After-struct_known-5-1 g) → c.curve_at.result * c.args.other.cost ≤ 4294967296000000
 bounded g c =
     let i = as_numbered c.args.other.task in
     let rule = c.args.rule.now in

@@ -7,7 +7,13 @@ all n i h = get_or-replicate 32 i n 0 h
 
 pub invariant_of-result : goal.invariant_of-result
 invariant_of-result c =
-    (refl, (refl, ((λ i h. omega (arith, all 0 i h, all 1 i h)), ((λ i h. omega (arith, all 0 i h, all 1 i h)), ((λ i h. omega (arith, all 1 i h)), tt)))))
+    record {
+      wide = refl;
+      deep = refl;
+      sorted = λ i h. omega (arith, all 0 i h, all 1 i h);
+      close = λ i h. omega (arith, all 0 i h, all 1 i h);
+      short = λ i h. omega (arith, all 1 i h);
+    }
 
 pub returns : goal.returns
 returns c = record {

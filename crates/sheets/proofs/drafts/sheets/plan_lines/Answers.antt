@@ -9,11 +9,11 @@ pair_line-requires c = (part_count 0 c.args.cursor.now.at c.args.cursor.now.rest
 pub pair_line-requires-2 : goal.pair_line-requires-2
 pair_line-requires-2 c = (part_count 0 c.args.cursor.now.at c.args.cursor.now.rest.now c.in_ok-counts.counts _ _ c.in_ok-counts.ensures).1
 
-pub slice-bounds-assemble-end : goal.slice-bounds-assemble-end
-slice-bounds-assemble-end c = omega (arith, (part_count 0 c.args.cursor.now.at c.args.cursor.now.rest.now c.in_ok-counts.counts _ _ c.in_ok-counts.ensures).1)
+pub slice_bounds-assemble-end : goal.slice_bounds-assemble-end
+slice_bounds-assemble-end c = omega (arith, (part_count 0 c.args.cursor.now.at c.args.cursor.now.rest.now c.in_ok-counts.counts _ _ c.in_ok-counts.ensures).1)
 
-pub slice-bounds-assemble-end-2 : goal.slice-bounds-assemble-end-2
-slice-bounds-assemble-end-2 c = omega (arith, (part_count 0 c.args.cursor.now.at c.args.cursor.now.rest.now c.in_ok-counts.counts _ _ c.in_ok-counts.ensures).1)
+pub slice_bounds-assemble-end-2 : goal.slice_bounds-assemble-end-2
+slice_bounds-assemble-end-2 c = omega (arith, (part_count 0 c.args.cursor.now.at c.args.cursor.now.rest.now c.in_ok-counts.counts _ _ c.in_ok-counts.ensures).1)
 
 pub assemble-requires : goal.assemble-requires
 assemble-requires c =

@@ -9,7 +9,7 @@ pub number_line-requires-3 : goal.number_line-requires-3
 number_line-requires-3 c = (task_count 0 c.args.cursor.now.at c.args.cursor.now.rest.now c.in_ok-counts.counts _ _ c.in_ok-counts.ensures).1
 
 pub invariant_of-result : goal.invariant_of-result
-invariant_of-result c = ((task_count 0 c.args.cursor.now.at c.args.cursor.now.rest.now c.in_ok-counts.counts _ _ c.in_ok-counts.ensures).1, tt)
+invariant_of-result c = record { few = (task_count 0 c.args.cursor.now.at c.args.cursor.now.rest.now c.in_ok-counts.counts _ _ c.in_ok-counts.ensures).1 }
 
 pub returns : goal.returns
 returns c =

@@ -23,7 +23,7 @@ pub invariant_of-self : goal.invariant_of-self
 invariant_of-self c =
     let self = c.args.self.now in
     let took = c.take_front.ensures in
-    (self.few, (self.spacious, (took.room ∙ self.roomy, (taken_known _ _ _ c.take_front.result took.after self.known, tt))))
+    record { few = self.few; spacious = self.spacious; roomy = took.room ∙ self.roomy; known = taken_known _ _ _ c.take_front.result took.after self.known }
 
 pub returns-in-Some-take_front : goal.returns-in-Some-take_front
 returns-in-Some-take_front c =
