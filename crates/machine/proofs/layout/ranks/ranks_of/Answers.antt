@@ -20,8 +20,8 @@ below_count g c =
 pub bounds-by_rank-own : goal.bounds-by_rank-own
 bounds-by_rank-own g c = below_count g c
 
-pub offset-bounds-by_rank-own : goal.offset-bounds-by_rank-own
-offset-bounds-by_rank-own g c = omega (arith, below_count g c)
+pub offset_bounds-by_rank-own : goal.offset_bounds-by_rank-own
+offset_bounds-by_rank-own g c = omega (arith, below_count g c)
 
 pub loop-task-preserved : goal.loop-task-preserved
 loop-task-preserved g c =
