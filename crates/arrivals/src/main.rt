@@ -32,7 +32,7 @@ fn spaced_tokens() -> Result<Both<Spaced, Bucket>, SetFault>
     ensures { IfOk result (λ rule. AllSubadditive (joined (spaced_curve rule.first) (bucket_curve rule.second))) }
 {
     let bucket = Bucket::new(&[2], &[100])?;
-    Ok(Both::new(spaced(10)?, bucket))
+    Ok(Both::join(spaced(10)?, bucket))
 }
 
 // Task 0 spaced by 3 ticks, and releases in pairs.

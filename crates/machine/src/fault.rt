@@ -1,7 +1,7 @@
 // The faults of a machine.
 ghost use Rattle.std.specs.Prelude.{◌≡◌, Some};
 ghost use Rattle.sheet.specs.Faults.{fault_line};
-ghost use Rattle.machine.specs.Faults.{shown as refusal_of};
+ghost use Rattle.machine.specs.Faults.{shown};
 ghost use Rattle.machine.specs.declared.fault.MachineFault.TheVariants.{Plan};
 
 use parts::fault::PlanFault;
@@ -36,7 +36,7 @@ impl From<PlanFault> for MachineFault {
 impl MachineFault {
     // Layer, number and place of the fault.
     pub fn refusal(&self) -> Refusal
-        ensures { result ≡ refusal_of self.now }
+        ensures { result ≡ shown self.now }
     {
         let (number, place) = match *self {
             MachineFault::Plan(p) => return p.refusal(),
@@ -55,7 +55,7 @@ impl MachineFault {
 }
 
 impl fmt::Display for MachineFault {
-    ghost output = { λ f. Some (fault_line (refusal_of f)) };
+    ghost output = { λ f. Some (fault_line (shown f)) };
 
     fn fmt<W: fmt::Write>(&self, f: &mut fmt::Formatter<W>) -> fmt::Result {
         let refusal = self.refusal();

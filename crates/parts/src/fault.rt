@@ -1,7 +1,7 @@
 // The faults of a plan.
 ghost use Rattle.std.specs.Prelude.{◌≡◌, Some};
 ghost use Rattle.sheet.specs.Faults.{fault_line};
-ghost use Rattle.parts.specs.Faults.{shown as refusal_of};
+ghost use Rattle.parts.specs.Faults.{shown};
 ghost use Rattle.parts.specs.declared.fault.PlanFault.TheVariants.{Set};
 
 use sheet::fault::Refusal;
@@ -44,7 +44,7 @@ impl From<SetFault> for PlanFault {
 impl PlanFault {
     // Layer, number and place of the fault.
     pub fn refusal(&self) -> Refusal
-        ensures { result ≡ refusal_of self.now }
+        ensures { result ≡ shown self.now }
     {
         let (number, place) = match *self {
             PlanFault::Set(s) => return s.refusal(),
@@ -67,7 +67,7 @@ impl PlanFault {
 }
 
 impl fmt::Display for PlanFault {
-    ghost output = { λ f. Some (fault_line (refusal_of f)) };
+    ghost output = { λ f. Some (fault_line (shown f)) };
 
     fn fmt<W: fmt::Write>(&self, f: &mut fmt::Formatter<W>) -> fmt::Result {
         let refusal = self.refusal();

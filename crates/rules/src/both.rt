@@ -1,5 +1,5 @@
 // Two arrival rules joined.
-ghost use Rattle.std.specs.Prelude.{◌≡◌};
+ghost use Rattle.std.specs.Prelude.{◌≡◌, min};
 ghost use Rattle.tasks.specs.Arrivals.{AllSubadditive};
 ghost use Rattle.rules.specs.Joins.{joined};
 ghost use Rattle.rules.specs.Pacing.{AllPaced};
@@ -15,21 +15,29 @@ pub struct Both<A, B> {
     second: B,
 }
 
-impl<A: ArrivalRule, B: ArrivalRule> Both<A, B> {
-    // The two rules joined. Where both have paced curves, the joined curves are paced again, and subadditive.
+impl<A, B> Both<A, B> {
     pub fn new(first: A, second: B) -> Both<A, B>
-        ensures made { (result.first ≡ first) × (result.second ≡ second) }
-        ensures paced { AllPaced (A.curve first) → AllPaced (B.curve second) → AllPaced (joined (A.curve first) (B.curve second)) }
-        ensures subadditive { AllPaced (A.curve first) → AllPaced (B.curve second) → AllSubadditive (joined (A.curve first) (B.curve second)) }
+        ensures { (result.first ≡ first) × (result.second ≡ second) }
     {
         Both { first, second }
     }
 }
 
-impl<A: ArrivalRule, B: ArrivalRule> ArrivalRule for Both<A, B> {
-    ghost curve = { λ r. joined (A.curve r.first) (B.curve r.second) };
+impl<A: ArrivalRule, B: ArrivalRule> Both<A, B> {
+    // The two rules joined. Where both have paced curves, the joined curves are paced again, and subadditive.
+    pub fn join(first: A, second: B) -> Both<A, B>
+        ensures made { (result.first ≡ first) × (result.second ≡ second) }
+        ensures paced { AllPaced (A.curve first) → AllPaced (B.curve second) → AllPaced (joined (A.curve first) (B.curve second)) }
+        ensures subadditive { AllPaced (A.curve first) → AllPaced (B.curve second) → AllSubadditive (joined (A.curve first) (B.curve second)) }
+    {
+        Both::new(first, second)
+    }
+}
 
-    ghost left = { λ r. joined (A.left r.first) (B.left r.second) };
+impl<A: ArrivalRule, B: ArrivalRule> ArrivalRule for Both<A, B> {
+    ghost curve = { λ r i L. min (A.curve r.first i L) (B.curve r.second i L) };
+
+    ghost left = { λ r i L. min (A.left r.first i L) (B.left r.second i L) };
 
     ghost curves = { λ r i h. joined_lawful _ _ (A.ArrivalRule.curves r.first i h) (B.ArrivalRule.curves r.second i h) };
 

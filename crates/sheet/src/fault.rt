@@ -1,6 +1,6 @@
 // What a refusal shows, and the faults of a sheet's bytes.
 ghost use Rattle.std.specs.Prelude.{◌≡◌, Some};
-ghost use Rattle.sheet.specs.Faults.{shown as refusal_of, fault_line};
+ghost use Rattle.sheet.specs.Faults.{shown, fault_line};
 
 use std::fmt;
 
@@ -37,7 +37,7 @@ pub enum SheetFault {
 impl SheetFault {
     // Layer, number and place of the fault.
     pub fn refusal(&self) -> Refusal
-        ensures { result ≡ refusal_of self.now }
+        ensures { result ≡ shown self.now }
     {
         match *self {
             SheetFault::Overlong => Refusal {
@@ -60,7 +60,7 @@ impl SheetFault {
 }
 
 impl fmt::Display for SheetFault {
-    ghost output = { λ f. Some (fault_line (refusal_of f)) };
+    ghost output = { λ f. Some (fault_line (shown f)) };
 
     fn fmt<W: fmt::Write>(&self, f: &mut fmt::Formatter<W>) -> fmt::Result {
         let refusal = self.refusal();

@@ -1,5 +1,6 @@
 // Windows: how long each part may take from its begin.
 ghost use Rattle.std.specs.Prelude.{◌≡◌, ℕ, ◌+◌, ◌*◌, ◌<◌, ◌≤◌, [], length, drop};
+ghost use Rattle.schedule.specs.Layout.{span_of};
 ghost use Rattle.parts.specs.Parts.{parts_of};
 ghost use Rattle.plan.specs.Responses.{response_within};
 ghost use Rattle.plan.specs.Systems.{system};
@@ -9,7 +10,6 @@ ghost use Rattle.spa2.specs.Windows.{has_part, window_of, windowed};
 
 use parts::fault::PlanFault;
 use parts::lists::PartList;
-use plan::numbers::sums;
 use plan::response::response_time;
 use schedule::Part;
 use tasks::arrival::ArrivalRule;
@@ -26,6 +26,20 @@ fn is_listed(parts: &[Part], task: u8) -> bool
         }
     }
     false
+}
+
+// The sum of the windows of the task's parts.
+fn span(parts: &[Part], task: u8) -> u64
+    requires { length parts.now ≤ 64 }
+    ensures { result ≡ span_of parts.now task }
+{
+    let mut sum = 0;
+    for part in parts {
+        if part.task == task {
+            sum += part.window as u64;
+        }
+    }
+    sum
 }
 
 // The window of the part at `number` of the parts, where those before it have theirs; 0 where it has none.
@@ -46,7 +60,7 @@ fn part_window<O: PriorityOrder, R: ArrivalRule>(
     if is_listed(&all[number + 1..], part.task) {
         return response_time(set, parts, part, period, order, rule).unwrap_or(0);
     }
-    (period as u64).saturating_sub(sums(done, part.task as usize).window) as u32
+    (period as u64).saturating_sub(span(done.as_slice(), part.task)) as u32
 }
 
 // The parts with their windows, or the first that has none of 1 or more.

@@ -1,7 +1,7 @@
 // The faults of a task set.
 ghost use Rattle.std.specs.Prelude.{◌≡◌, Some};
 ghost use Rattle.sheet.specs.Faults.{fault_line};
-ghost use Rattle.tasks.specs.Faults.{shown as refusal_of};
+ghost use Rattle.tasks.specs.Faults.{shown};
 ghost use Rattle.tasks.specs.declared.fault.SetFault.TheVariants.{Sheet};
 
 use sheet::fault::{Refusal, SheetFault};
@@ -31,7 +31,7 @@ impl From<SheetFault> for SetFault {
 impl SetFault {
     // Layer, number and place of the fault.
     pub fn refusal(&self) -> Refusal
-        ensures { result ≡ refusal_of self.now }
+        ensures { result ≡ shown self.now }
     {
         match *self {
             SetFault::Sheet(s) => s.refusal(),
@@ -55,7 +55,7 @@ impl SetFault {
 }
 
 impl fmt::Display for SetFault {
-    ghost output = { λ f. Some (fault_line (refusal_of f)) };
+    ghost output = { λ f. Some (fault_line (shown f)) };
 
     fn fmt<W: fmt::Write>(&self, f: &mut fmt::Formatter<W>) -> fmt::Result {
         let refusal = self.refusal();

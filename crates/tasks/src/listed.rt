@@ -24,7 +24,13 @@ impl Listed {
 impl PriorityOrder for Listed {
     ghost before = { λ o a b. by_grade o.grades a b };
 
-    ghost lawful = { first_of (Prim.search rules, Prim.grind (arith, Self.row.coded.inj)) };
+    ghost irreflexive = { first_of (Prim.search rules, Prim.grind (arith, Self.row.coded.inj)) };
+
+    ghost connected = { first_of (Prim.search rules, Prim.grind (arith, Self.row.coded.inj)) };
+
+    ghost asymmetric = { first_of (Prim.search rules, Prim.grind (arith, Self.row.coded.inj)) };
+
+    ghost transitive = { first_of (Prim.search rules, Prim.grind (arith, Self.row.coded.inj)) };
 
     fn goes_before(&self, first: TaskKey, second: TaskKey) -> bool {
         let a = task_number(first.number);

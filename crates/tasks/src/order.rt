@@ -1,7 +1,7 @@
 // Priority orders: which of two tasks goes before the other.
-ghost use Rattle.std.specs.Prelude.{◌≡◌, Bool};
+ghost use Rattle.std.specs.Prelude.{◌≡◌, Bool, T, ◌⊎◌, ◌≢◌};
 ghost use Rattle.tasks.specs.declared.order.TaskKey.{TaskKey};
-ghost use Rattle.tasks.specs.Orders.{LawfulOrder, as_asked, first_of};
+ghost use Rattle.tasks.specs.Orders.{Told, as_asked, first_of};
 
 // A task as a priority order is told it.
 #[derive(Clone, Copy, PartialEq, Eq, Debug)]
@@ -18,7 +18,17 @@ pub trait PriorityOrder {
     fn goes_before(&self, first: TaskKey, second: TaskKey) -> bool
         ensures { result ≡ before self.now (as_asked first) (as_asked second) };
 
-    ghost lawful: { (o : Self) → LawfulOrder (before o) };
+    // no task goes before itself
+    ghost irreflexive: { (o : Self) (a : TaskKey) → Told a → T (before o a a) → ⊥ };
+
+    // of two tasks with different numbers one goes before the other
+    ghost connected: { (o : Self) (a b : TaskKey) → Told a → Told b → (a.number ≢ b.number) → T (before o a b) ⊎ T (before o b a) };
+
+    // and only one
+    ghost asymmetric: { (o : Self) (a b : TaskKey) → Told a → Told b → (a.number ≢ b.number) → T (before o a b) → T (before o b a) → ⊥ };
+
+    // over tasks of three different numbers
+    ghost transitive: { (o : Self) (a b c : TaskKey) → Told a → Told b → Told c → (a.number ≢ b.number) → (b.number ≢ c.number) → (a.number ≢ c.number) → T (before o a b) → T (before o b c) → T (before o a c) };
 }
 
 // Of two values, each with a number: whether the first is smaller, or equal and of the smaller number.

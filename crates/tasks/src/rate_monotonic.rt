@@ -12,7 +12,13 @@ pub struct RateMonotonic;
 impl PriorityOrder for RateMonotonic {
     ghost before = { λ _ a b. by_period a b };
 
-    ghost lawful = { Prim.search rules };
+    ghost irreflexive = { Prim.search rules };
+
+    ghost connected = { Prim.search rules };
+
+    ghost asymmetric = { Prim.search rules };
+
+    ghost transitive = { Prim.search rules };
 
     fn goes_before(&self, first: TaskKey, second: TaskKey) -> bool {
         is_first(

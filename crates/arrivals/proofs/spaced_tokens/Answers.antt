@@ -10,7 +10,7 @@ use Rattle.arrivals.proofs.spaced_tokens.Goals as goal
 -- both rules are paced, so what they are joined to is subadditive
 pub returns : goal.returns
 returns c =
-    let made = c.new-2.ensures.made in
-    rw (made.0, made.1) (c.new-2.ensures.subadditive
-    (subst (λ (x : Spaced). AllPaced (spaced_curve x)) made.0 (all_spaced_paced c.new-2.result.first))
-    (subst (λ (x : Bucket). AllPaced (bucket_curve x)) made.1 (c.new.ensures.paced c.new-2.result.second)))
+    let made = c.join.ensures.made in
+    rw (made.0, made.1) (c.join.ensures.subadditive
+    (subst (λ (x : Spaced). AllPaced (spaced_curve x)) made.0 (all_spaced_paced c.join.result.first))
+    (subst (λ (x : Bucket). AllPaced (bucket_curve x)) made.1 (c.new.ensures.paced c.join.result.second)))

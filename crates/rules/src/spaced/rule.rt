@@ -26,7 +26,7 @@ fn periods_of(set: &TaskSet) -> [u32; 32]
 }
 
 // Every count falls by 1, but not below 0.
-fn count_down(counts: &mut [u32])
+pub(crate) fn count_down(counts: &mut [u32])
     ensures { (i : ℕ) → slice_index counts.new i ≡ slice_index counts.old i - 1 }
 {
     for count in counts.iter_mut() {

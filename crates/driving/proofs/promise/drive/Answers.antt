@@ -21,8 +21,18 @@ use Rattle.machine.specs.Layouts.{ByOrder}
 use Rattle.machine.specs.Meaning.{state_of}
 use Rattle.driving.proofs.CallLists.{sys_of}
 use Rattle.driving.proofs.Promising.{found_by, nothing_by, nothing_refused, drive_exact, keeps, accepted_by, system_alike, history_from_start, state_from_start}
+use Rattle.tasks.specs.Orders.{LawfulOrder}
+use Rattle.driving.proofs.promise.drive.Given as given
 use Rattle.driving.proofs.promise.drive.Goals as goal
 use Rattle.driving.proofs.promise.drive.Goals.{in-Some, in-None}
+
+order_law : (g : given.Over) (o : g.row.O.Denot) → LawfulOrder (g.O.PriorityOrder.before o)
+order_law g o = record {
+  irreflexive = g.met.O.PriorityOrder.irreflexive o;
+  connected = g.met.O.PriorityOrder.connected o;
+  asymmetric = g.met.O.PriorityOrder.asymmetric o;
+  transitive = g.met.O.PriorityOrder.transitive o;
+}
 
 never : {A : Type 0} (f : MachineFault) → Some f ≡ None → A
 never f e = let z : ◌≡◌ {A = ℕ} 0 1 = cc in absurd (omega arith)
@@ -45,7 +55,7 @@ returns-then-outcomes-needed g c =
       promise = record {
         refused = refused;
         exact = λ passes sub. subst (λ (f : Option MachineFault). (AsLate f → CanBeLate c.args.set c.args.processors ps before curve) × (CanBeLate c.args.set c.args.processors ps before curve → AsLate f)) (sym refused)
-            (drive_exact c.args.set c.args.processors ps before curve (g.met.O.PriorityOrder.lawful c.args.order) (g.met.R.ArrivalRule.curves c.args.rule) room n k passes sub);
+            (drive_exact c.args.set c.args.processors ps before curve (order_law g c.args.order) (g.met.R.ArrivalRule.curves c.args.rule) room n k passes sub);
         untouched = λ f e. (refl, refl);
         driven = λ e. never c.match-fault_of.fault e;
       };
@@ -67,7 +77,7 @@ returns-in-Err g c =
       promise = record {
         refused = refused;
         exact = λ passes sub. subst (λ (f : Option MachineFault). (AsLate f → CanBeLate c.args.set c.args.processors ps before curve) × (CanBeLate c.args.set c.args.processors ps before curve → AsLate f)) (sym refused)
-            (drive_exact c.args.set c.args.processors ps before curve (g.met.O.PriorityOrder.lawful c.args.order) (g.met.R.ArrivalRule.curves c.args.rule) room n k passes sub);
+            (drive_exact c.args.set c.args.processors ps before curve (order_law g c.args.order) (g.met.R.ArrivalRule.curves c.args.rule) room n k passes sub);
         untouched = λ f e. (c.in-Err.ensures.times, refl);
         driven = λ e. never (Plan fault) e;
       };
@@ -88,7 +98,7 @@ returns-in-Ok g c =
     let n = length c.args.calls.now in
     let k = length c.args.outcomes.now in
     let cs = map call_of c.args.calls.now in
-    let law = g.met.O.PriorityOrder.lawful c.args.order in
+    let law = order_law g c.args.order in
     let curves = g.met.R.ArrivalRule.curves c.args.rule in
     let found : check_fault set m ps b v room ≡ None = nothing_by _ _ _ c.in-Ok.ensures.answer in
     let refused : None ≡ drive_fault (check_fault set m ps b v room) n k = nothing_refused _ n k found c.if-outcomes-needed.false in

@@ -9,7 +9,16 @@ use Rattle.machine.proofs.Living.{life_goes_on}
 use Rattle.machine.proofs.States.{length_kept, fits_kept, open_meant}
 use Rattle.machine.proofs.Obeying
 use Rattle.machine.proofs.Machine.finish.Given as given
+use Rattle.tasks.specs.Orders.{LawfulOrder}
 use Rattle.machine.proofs.Machine.finish.Goals as goal
+
+order_law : (g : given.Over) (o : g.row.O.Denot) → LawfulOrder (g.O.PriorityOrder.before o)
+order_law g o = record {
+  irreflexive = g.met.O.PriorityOrder.irreflexive o;
+  connected = g.met.O.PriorityOrder.connected o;
+  asymmetric = g.met.O.PriorityOrder.asymmetric o;
+  transitive = g.met.O.PriorityOrder.transitive o;
+}
 
 -- The laws of the rule at hand.
 curve_law : (g : given.Over) (r : g.row.R.Denot) → LawfulCurves (g.R.ArrivalRule.curve r)
@@ -26,7 +35,7 @@ returns-then-task-count g c =
       own = refl;
       same = goes;
       refused = λ e. refl;
-      life = life_goes_on m _ g.O.PriorityOrder.before _ _ _ _ _ _ (g.met.O.PriorityOrder.lawful m.order) (curve_law g m.rule) goes (λ ranked. obeyed);
+      life = life_goes_on m _ g.O.PriorityOrder.before _ _ _ _ _ _ (order_law g m.order) (curve_law g m.rule) goes (λ ranked. obeyed);
     }
 
 pub returns-in-Closed : goal.returns-in-Closed
@@ -40,7 +49,7 @@ returns-in-Closed g c =
       own = refl;
       same = goes;
       refused = λ e. refl;
-      life = life_goes_on m _ g.O.PriorityOrder.before _ _ _ _ _ _ (g.met.O.PriorityOrder.lawful m.order) (curve_law g m.rule) goes (λ ranked. obeyed);
+      life = life_goes_on m _ g.O.PriorityOrder.before _ _ _ _ _ _ (order_law g m.order) (curve_law g m.rule) goes (λ ranked. obeyed);
     }
 
 pub invariant_of-self : goal.invariant_of-self
@@ -65,5 +74,5 @@ returns g c =
       own = tt;
       same = record { layout = refl; order = refl; curves = λ i L h. refl };
       refused = λ e. absurd (true≢false e);
-      life = life_goes_on m _ g.O.PriorityOrder.before _ _ _ _ _ _ (g.met.O.PriorityOrder.lawful m.order) (curve_law g m.rule) (record { layout = refl; order = refl; curves = λ i L h. refl }) (λ ranked. obeyed);
+      life = life_goes_on m _ g.O.PriorityOrder.before _ _ _ _ _ _ (order_law g m.order) (curve_law g m.rule) (record { layout = refl; order = refl; curves = λ i L h. refl }) (λ ranked. obeyed);
     }

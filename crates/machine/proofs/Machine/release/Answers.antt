@@ -9,7 +9,16 @@ use Rattle.machine.specs.Meaning.{GoesOn}
 use Rattle.machine.proofs.Living.{life_goes_on}
 use Rattle.machine.proofs.Obeying
 use Rattle.machine.proofs.Machine.release.Given as given
+use Rattle.tasks.specs.Orders.{LawfulOrder}
 use Rattle.machine.proofs.Machine.release.Goals as goal
+
+order_law : (g : given.Over) (o : g.row.O.Denot) → LawfulOrder (g.O.PriorityOrder.before o)
+order_law g o = record {
+  irreflexive = g.met.O.PriorityOrder.irreflexive o;
+  connected = g.met.O.PriorityOrder.connected o;
+  asymmetric = g.met.O.PriorityOrder.asymmetric o;
+  transitive = g.met.O.PriorityOrder.transitive o;
+}
 
 -- The laws of the rule at hand.
 curve_law : (g : given.Over) (r : g.row.R.Denot) → LawfulCurves (g.R.ArrivalRule.curve r)
@@ -32,7 +41,7 @@ returns-then-task-count g c =
       own = refl;
       same = goes;
       refused = λ e. refl;
-      life = life_goes_on m _ g.O.PriorityOrder.before _ _ _ _ _ _ (g.met.O.PriorityOrder.lawful m.order) (curve_law g m.rule) goes (λ ranked. obeyed);
+      life = life_goes_on m _ g.O.PriorityOrder.before _ _ _ _ _ _ (order_law g m.order) (curve_law g m.rule) goes (λ ranked. obeyed);
     }
 
 pub returns-then-not-is_open : goal.returns-then-not-is_open
@@ -49,7 +58,7 @@ returns-then-not-is_open g c =
       own = refl;
       same = goes;
       refused = λ e. refl;
-      life = life_goes_on m m g.O.PriorityOrder.before _ _ _ _ _ _ (g.met.O.PriorityOrder.lawful m.order) (curve_law g m.rule) goes (λ ranked. obeyed);
+      life = life_goes_on m m g.O.PriorityOrder.before _ _ _ _ _ _ (order_law g m.order) (curve_law g m.rule) goes (λ ranked. obeyed);
     }
 
 pub returns : goal.returns
@@ -69,5 +78,5 @@ returns g c =
       own = tt;
       same = record { layout = refl; order = refl; curves = c.admit.ensures.curves_stay };
       refused = λ e. absurd (true≢false e);
-      life = life_goes_on m _ g.O.PriorityOrder.before _ _ _ _ _ _ (g.met.O.PriorityOrder.lawful m.order) (curve_law g m.rule) (record { layout = refl; order = refl; curves = c.admit.ensures.curves_stay }) (λ ranked. obeyed);
+      life = life_goes_on m _ g.O.PriorityOrder.before _ _ _ _ _ _ (order_law g m.order) (curve_law g m.rule) (record { layout = refl; order = refl; curves = c.admit.ensures.curves_stay }) (λ ranked. obeyed);
     }

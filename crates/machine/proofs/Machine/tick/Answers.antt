@@ -8,7 +8,16 @@ use Rattle.machine.specs.Meaning.{GoesOn, Obeyed, system_of, state_of, table_sta
 use Rattle.machine.proofs.Living.{life_goes_on}
 use Rattle.machine.proofs.Ticking.{worn_out, cramped, tick_obeyed}
 use Rattle.machine.proofs.Machine.tick.Given as given
+use Rattle.tasks.specs.Orders.{LawfulOrder}
 use Rattle.machine.proofs.Machine.tick.Goals as goal
+
+order_law : (g : given.Over) (o : g.row.O.Denot) → LawfulOrder (g.O.PriorityOrder.before o)
+order_law g o = record {
+  irreflexive = g.met.O.PriorityOrder.irreflexive o;
+  connected = g.met.O.PriorityOrder.connected o;
+  asymmetric = g.met.O.PriorityOrder.asymmetric o;
+  transitive = g.met.O.PriorityOrder.transitive o;
+}
 
 -- The laws of the rule at hand.
 curve_law : (g : given.Over) (r : g.row.R.Denot) → LawfulCurves (g.R.ArrivalRule.curve r)
@@ -25,7 +34,7 @@ returns-then-self-ge-LAST_CLOCK g c =
       same = goes;
       rest = refl;
       refused = λ e. (refl, refl);
-      life = life_goes_on m _ g.O.PriorityOrder.before _ _ _ _ _ _ (g.met.O.PriorityOrder.lawful m.order) (curve_law g m.rule) goes (λ ranked. obeyed);
+      life = life_goes_on m _ g.O.PriorityOrder.before _ _ _ _ _ _ (order_law g m.order) (curve_law g m.rule) goes (λ ranked. obeyed);
     }
 
 pub returns-then-answer-processors : goal.returns-then-answer-processors
@@ -39,7 +48,7 @@ returns-then-answer-processors g c =
       same = goes;
       rest = refl;
       refused = λ e. (refl, refl);
-      life = life_goes_on m _ g.O.PriorityOrder.before _ _ _ _ _ _ (g.met.O.PriorityOrder.lawful m.order) (curve_law g m.rule) goes (λ ranked. obeyed);
+      life = life_goes_on m _ g.O.PriorityOrder.before _ _ _ _ _ _ (order_law g m.order) (curve_law g m.rule) goes (λ ranked. obeyed);
     }
 
 pub returns : goal.returns
@@ -62,5 +71,5 @@ returns g c =
       same = record { layout = refl; order = refl; curves = c.advance.ensures.0 };
       rest = c.write_answer.ensures.rest;
       refused = λ e. absurd (true≢false e);
-      life = life_goes_on m _ g.O.PriorityOrder.before _ _ _ _ _ _ (g.met.O.PriorityOrder.lawful m.order) (curve_law g m.rule) (record { layout = refl; order = refl; curves = c.advance.ensures.0 }) obeyed;
+      life = life_goes_on m _ g.O.PriorityOrder.before _ _ _ _ _ _ (order_law g m.order) (curve_law g m.rule) (record { layout = refl; order = refl; curves = c.advance.ensures.0 }) obeyed;
     }

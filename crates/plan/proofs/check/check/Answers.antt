@@ -11,7 +11,17 @@ use Rattle.plan.specs.Systems.{system}
 use Rattle.plan.proofs.Exactness.{exactly_late}
 use Rattle.parts.proofs.Listing.{listed_length}
 use Rattle.plan.proofs.Writing.{front_is_map}
+use Rattle.tasks.specs.Orders.{LawfulOrder}
+use Rattle.plan.proofs.check.check.Given as given
 use Rattle.plan.proofs.check.check.Goals as goal
+
+order_law : (g : given.Over) (o : g.row.O.Denot) → LawfulOrder (g.O.PriorityOrder.before o)
+order_law g o = record {
+  irreflexive = g.met.O.PriorityOrder.irreflexive o;
+  connected = g.met.O.PriorityOrder.connected o;
+  asymmetric = g.met.O.PriorityOrder.asymmetric o;
+  transitive = g.met.O.PriorityOrder.transitive o;
+}
 
 pub returns-in_err-times : goal.returns-in_err-times
 returns-in_err-times g c =
@@ -30,7 +40,7 @@ returns-in_err-times g c =
       times = refl;
       held = refl;
       exact = subst (ExactlyLate c.args.set c.args.processors ps before curve) (sym answer)
-          (exactly_late c.args.set c.args.processors ps before curve (g.met.O.PriorityOrder.lawful c.args.order) (g.met.R.ArrivalRule.curves c.args.rule) room);
+          (exactly_late c.args.set c.args.processors ps before curve (order_law g c.args.order) (g.met.R.ArrivalRule.curves c.args.rule) room);
     })
 
 pub returns : goal.returns
@@ -52,5 +62,5 @@ returns g c =
       times = c.write_times.ensures ∙ ap (λ (n : ℕ). take n c.in_ok-times.times ++ drop n c.args.responses.now) counted ∙ ap (λ (l : List ℕ). l ++ drop (length ps) c.args.responses.now) front;
       held = (refl, refl, same, refl, refl);
       exact = subst (ExactlyLate c.args.set c.args.processors ps before curve) (sym answer)
-          (exactly_late c.args.set c.args.processors ps before curve (g.met.O.PriorityOrder.lawful c.args.order) (g.met.R.ArrivalRule.curves c.args.rule) room);
+          (exactly_late c.args.set c.args.processors ps before curve (order_law g c.args.order) (g.met.R.ArrivalRule.curves c.args.rule) room);
     }

@@ -44,6 +44,6 @@ returns g c =
     let told : c.is_listed.result ≡ has_part p.task (drop (length done + 1) ps) =
     c.is_listed.ensures ∙ (ap (λ (qs : List Part). has_part p.task qs) (between_to_end all (n + 1) (length all) end)
     ∙ (ap (λ (qs : List Part). has_part p.task (drop (n + 1) qs)) c.as_slice-all.ensures ∙ ap (λ (k : ℕ). has_part p.task (drop (k + 1) ps)) c.len-number.ensures)) in
-    let span : c.sums.result.window ≡ span_of done p.task = c.sums.ensures.window in
+    let span : c.span.result ≡ span_of done p.task = c.span.ensures ∙ ap (λ (qs : List Part). span_of qs p.task) c.as_slice.ensures in
     let left : c.saturating_sub.result ≡ period_of set p.task - span_of done p.task = omega (arith, c.saturating_sub.ensures, c.period-period.ensures, span) in
     left ∙ sym (window_last (tasks_of set) (response_within sys) done p (drop (length done + 1) ps) (sym told ∙ c.if-is_listed.false))

@@ -1,13 +1,22 @@
 use Rattle.std.proofs.Common.{◌≡◌, ℕ, ◌+◌, ◌≤◌, Bool, true, false, sym, ap, ◌∙◌, arith}
 use Rattle.schedule.specs.Lists.{total, below, one_if}
 use Rattle.tasks.proofs.Orderings.{all_ranked, total_more}
-use Rattle.tasks.specs.Orders.{as_asked}
+use Rattle.tasks.specs.Orders.{LawfulOrder, as_asked}
 use Rattle.tasks.specs.Ranks.{precedes}
 use Rattle.tasks.specs.Sets.{count_of, key_of}
 use Rattle.tasks.specs.declared.order.TaskKey.{TaskKey}
 use Rattle.tasks.specs.declared.set.TaskSet.{TaskSet}
+use Rattle.tasks.proofs.ranking.rank.Given as given
 use Rattle.tasks.proofs.ranking.rank.Goals as goal
 use Rattle.tasks.proofs.ranking.rank.Goals.{then-goes_before, else-goes_before}
+
+order_law : (g : given.Over) (o : g.row.O.Denot) → LawfulOrder (g.O.PriorityOrder.before o)
+order_law g o = record {
+  irreflexive = g.met.O.PriorityOrder.irreflexive o;
+  connected = g.met.O.PriorityOrder.connected o;
+  asymmetric = g.met.O.PriorityOrder.asymmetric o;
+  transitive = g.met.O.PriorityOrder.transitive o;
+}
 
 as_told : (before : TaskKey → TaskKey → Bool) (set : TaskSet) (a b : ℕ) (k l : TaskKey) (r : Bool) → k ≡ key_of set a → l ≡ key_of set b → r ≡ before (as_asked k) (as_asked l) → r ≡ precedes before set a b
 as_told before set a b k l r ek el e =
@@ -41,5 +50,5 @@ returns g c =
     let e : c.loop-other.other ≡ count_of s = omega arith in
     record {
       value = c.loop-other.invariant.1 ∙ ap (λ n. total f (below n)) e;
-      ranked = all_ranked s before (g.met.O.PriorityOrder.lawful o);
+      ranked = all_ranked s before (order_law g o);
     }

@@ -5,10 +5,19 @@ use Rattle.tasks.specs.Ranks.{rank_in, Ranked}
 use Rattle.tasks.specs.declared.set.TaskSet.{TaskSet}
 use Rattle.tasks.proofs.Orderings.{all_ranked}
 use Rattle.machine.proofs.layout.ranks.ranks_of.Given as given
+use Rattle.tasks.specs.Orders.{LawfulOrder}
 use Rattle.machine.proofs.layout.ranks.ranks_of.Goals as goal
 
+order_law : (g : given.Over) (o : g.row.O.Denot) → LawfulOrder (g.O.PriorityOrder.before o)
+order_law g o = record {
+  irreflexive = g.met.O.PriorityOrder.irreflexive o;
+  connected = g.met.O.PriorityOrder.connected o;
+  asymmetric = g.met.O.PriorityOrder.asymmetric o;
+  transitive = g.met.O.PriorityOrder.transitive o;
+}
+
 ranked : (g : given.Over) (o : g.row.O.Denot) (set : TaskSet) → Ranked (g.O.PriorityOrder.before o) set
-ranked g o set = all_ranked set (g.O.PriorityOrder.before o) (g.met.O.PriorityOrder.lawful o)
+ranked g o set = all_ranked set (g.O.PriorityOrder.before o) (order_law g o)
 
 -- The rank of the task at hand is below the count.
 below_count : (g : given.Over) (c : goal.After-rank-own g) → c.rank-own.result < 32

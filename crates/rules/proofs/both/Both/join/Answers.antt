@@ -1,11 +1,10 @@
-use Rattle.std.proofs.Common.{refl}
 use Rattle.rules.specs.Joining.{joined_lawful}
 use Rattle.rules.specs.PacingLemmas.{joined_paced, paced_subadditive}
-use Rattle.rules.proofs.both.Both.new.Goals as goal
+use Rattle.rules.proofs.both.Both.join.Goals as goal
 
 pub returns : goal.returns
 returns g c = record {
-  made = (refl, refl);
+  made = c.new.ensures;
   paced = λ first second i h. joined_paced _ _ (first i h) (second i h);
   subadditive = λ first second i h.
       paced_subadditive _
