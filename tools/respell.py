@@ -85,12 +85,38 @@ def turned(path, line):
     return ''.join(out) + code[at:] + line[len(code):]
 
 
+def bounded(text):
+    """The text of a .rt file, in whose clauses a member of a bound is named through its parameter: `O.before` for `before`."""
+    lines, out, impl, fn = text.split('\n'), [], '', ''
+    for at, line in enumerate(lines):
+        if re.match(r"\s*(pub )?impl\b", line):
+            impl, fn = line, ''
+        elif line.startswith('}'):
+            impl, fn = '', ''
+        if re.match(r"\s*(pub(\(crate\))? )?(const )?fn\b", line):
+            fn, end = line, at
+            while ')' not in fn and end + 1 < len(lines):
+                end += 1
+                fn += lines[end]
+        if re.match(r"\s*(ensures|requires)\b", line):
+            for trait, members in (('PriorityOrder', ['before']), ('ArrivalRule', ['curve', 'left'])):
+                bounds = {p for p in re.findall(r"\b(\w+): " + trait + r"\b", impl + ' ' + fn) if len(p) <= 2}
+                if len(bounds) == 1:
+                    for member in members:
+                        line = re.sub(r"(?<![\w.'])" + member + r"(?![\w'])(?!\s*\})", bounds.copy().pop() + '.' + member, line)
+        line = re.sub(r"\b([AB])\.ArrivalRule\.(curve|left)\b", r"\1.\2", line)
+        out.append(line)
+    return '\n'.join(out)
+
+
 if __name__ == '__main__':
     listing = '--list' in sys.argv
     seen, renamed = collections.defaultdict(set), collections.defaultdict(set)
     for path in ANTT + RT:
         before = text_of(path)
         after = '\n'.join(turned(path, line) for line in before.split('\n'))
+        if path.endswith('.rt') and not listing:
+            after = bounded(after)
         if listing:
             for l, r in zip(before.split('\n'), after.split('\n')):
                 a = [m.group(0) for m in TOKEN.finditer(code_of(path, l))]
