@@ -1,12 +1,11 @@
 -- A list of calls made one after another: the machine stays with the tick rule's history.
-use Rattle.std.proofs.Common.{◌≡◌, ℕ, zero, suc, ◌+◌, ◌<◌, ◌≤◌, Bool, List, [], ◌∷◌, ◌++◌, map, length, get_or, take, drop, set, sym, refl, ap, ◌∙◌, subst, arith}
+use Rattle.std.proofs.Common.{◌≡◌, ℕ, zero, suc, ◌<◌, Bool, List, [], ◌∷◌, ◌++◌, map, length, take, drop, set, sym, refl, ap, ◌∙◌, arith}
 use mathlib.Core.List.{map-append}
-use Rattle.std.proofs.lemmas.List.{take_more}
 use Rattle.schedule.specs.Layout.{System}
 use Rattle.schedule.specs.Sameness.{Same, Alike}
 use Rattle.schedule.specs.TickRule.{State, Answer, History, Event, answers, after_call, history, state_after}
 use Rattle.schedule.specs.TickRule as rules
-use Rattle.schedule.proofs.Histories.{history_snoc, state_snoc, alike_answers, alike_after, alike_same, alike_sym, same_trans, same_sym}
+use Rattle.schedule.proofs.Histories.{history_snoc, state_snoc, alike_answers, alike_after, alike_same, alike_sym, same_trans}
 use Rattle.tasks.specs.Numbers.{as_numbered}
 use Rattle.tasks.specs.Orders.{as_asked}
 use Rattle.tasks.specs.Sets.{count_of, cost_of, key_of}
@@ -17,7 +16,7 @@ use Rattle.driving.specs.declared.Call.{Call}
 use Rattle.driving.specs.declared.Outcome.{Outcome}
 use Rattle.machine.specs.declared.layout.Layout.{Layout}
 use Rattle.driving.specs.Driving.{call_of, outcome_meant, recorded}
-use Rattle.machine.specs.Meaning.{system_of, state_of, Obeyed, GoesOn}
+use Rattle.machine.specs.Meaning.{system_of, Obeyed, GoesOn}
 
 module _ {O R : Type 0} (before : O → TaskKey → TaskKey → Bool) (curve : R → ℕ → ℕ → ℕ) where
   abbrev pub sys_of : Machine O R → System

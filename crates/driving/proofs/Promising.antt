@@ -1,8 +1,7 @@
 -- What a drive rests on: its refusals against the check's, and its history against that of the tick rule.
-use Rattle.std.proofs.Common.{◌≡◌, ℕ, ◌<◌, ◌≤◌, Bool, true, false, ltb, List, ◌++◌, length, Some, None, Ok, Err, Option, Result, sym, refl, ap, ◌∙◌, subst, arith}
-use Rattle.std.specs.Option.{option_or, option_map}
+use Rattle.std.proofs.Common.{◌≡◌, ℕ, ◌<◌, ◌≤◌, Bool, true, false, ltb, List, length, Some, None, Ok, Err, Option, Result, sym, refl, ap, ◌∙◌, subst, arith}
 use Rattle.std.specs.Bool.{then_some}
-use Rattle.std.proofs.lemmas.Bool.{le-ltb, lt-ltb}
+use Rattle.std.proofs.lemmas.Bool.{le-ltb}
 use Rattle.schedule.specs.declared.Part.{Part}
 use Rattle.schedule.specs.Curves.{Subadditive}
 use Rattle.schedule.specs.Layout.{System}
@@ -18,7 +17,7 @@ use Rattle.tasks.specs.Orders.{as_asked}
 use Rattle.tasks.specs.Sets.{count_of, cost_of, key_of}
 use Rattle.tasks.specs.declared.order.TaskKey.{TaskKey}
 use Rattle.tasks.specs.declared.set.TaskSet.{TaskSet}
-use Rattle.plan.specs.Answers.{refused_or, check_fault, check_answer, CanBeLate}
+use Rattle.plan.specs.Answers.{refused_or, check_fault, CanBeLate}
 use Rattle.plan.specs.Checks.{earlier_fault, late_fault, verdict}
 use Rattle.parts.specs.Faults as plans
 use Rattle.plan.specs.Systems.{system}

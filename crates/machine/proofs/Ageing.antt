@@ -1,22 +1,21 @@
 -- What a tick makes of a record, against the tick rule.
-use Rattle.std.proofs.Common.{◌≡◌, ℕ, zero, suc, ◌+◌, ◌-◌, ◌*◌, ◌<◌, ◌≤◌, Bool, true, false, cond, not, ◌&&◌, eqb, ltb, leb, ◌⊎◌, List, [], ◌∷◌, length, get_or, take, Some, None, Option, sym, refl, ap, ◌∙◌, subst, inl, inr, arith}
+use Rattle.std.proofs.Common.{◌≡◌, ℕ, suc, ◌+◌, ◌-◌, ◌<◌, ◌≤◌, Bool, true, false, cond, eqb, ◌⊎◌, List, length, get_or, Some, None, Option, sym, refl, ap, ◌∙◌, subst, inl, inr, arith}
 use Rattle.std.proofs.lemmas.Bool.{and_parts, and_from, ltb-true, lt-ltb, leb-true, le-leb, eq-eqb, ne_eqb, cond-true, cond-false, not-true}
 use Rattle.schedule.specs.declared.Part.{Part}
 use Rattle.schedule.specs.Lists.{one_if}
-use Rattle.schedule.specs.Layout.{Segment, segments}
-use Rattle.schedule.specs.TickRule.{closed, open_at, hand_over, aged}
-use Rattle.tasks.specs.Sets.{count_of}
+use Rattle.schedule.specs.Layout.{Segment}
+use Rattle.schedule.specs.TickRule.{open_at, hand_over, aged}
 use Rattle.tasks.specs.declared.set.TaskSet.{TaskSet}
 use Rattle.plan.specs.Checks.{part_at, number_fault, numbers_pass}
 use Rattle.parts.specs.Parts.{parts_of}
 use Rattle.machine.specs.declared.jobs.Job.{Job}
-use Rattle.machine.specs.declared.jobs.Job.TheVariants.{Closed, Waiting, Ready}
+use Rattle.machine.specs.declared.jobs.Job.TheVariants.{Waiting, Ready}
 use Rattle.machine.specs.declared.layout.Layout.{Layout}
 use Rattle.machine.specs.declared.placed.PlacedPart.{PlacedPart}
-use Rattle.machine.specs.Jobs.{meant, fits, in_time}
-use Rattle.machine.specs.Placing.{begin_at, end_at, segment_at, later_at, next_part, placed_at, unplaced, from_part, Runnable}
+use Rattle.machine.specs.Jobs.{fits, in_time}
+use Rattle.machine.specs.Placing.{begin_at, end_at, next_part, unplaced, Runnable}
 use Rattle.plan.proofs.Passing.{Passed, passed, is_none}
-use Rattle.machine.proofs.Placing.{Next, next_is, first_begins, next_begins, segments_first, later_next}
+use Rattle.machine.proofs.Placing.{next_is, next_begins}
 use Rattle.machine.proofs.Tables.{span_bound}
 
 -- The parts of a layout passed the check of their numbers.

@@ -1,11 +1,11 @@
 -- Words of bits: one bit more, the lowest bit, how many bits, and a bit by its place.
-use Rattle.std.proofs.Common.{◌≡◌, ℕ, zero, suc, ◌+◌, ◌*◌, ◌/◌, ◌%◌, ◌^◌, ◌<◌, ◌≤◌, max, Bool, true, false, cond, ◌||◌, eqb, ◌⊎◌, sym, refl, ap, ◌∙◌, subst, ap₂, inl, inr, add-zero, mul_comm, one-mul, pow-suc, zero-add, arith}
+use Rattle.std.proofs.Common.{◌≡◌, ℕ, zero, suc, ◌+◌, ◌*◌, ◌/◌, ◌%◌, ◌^◌, ◌<◌, ◌≤◌, max, Bool, true, false, ◌||◌, eqb, sym, refl, ap, ◌∙◌, subst, ap₂, inl, inr, one-mul, arith}
 use lib.Bits.{bit_or, or_step, or_zero_r, shifted_half, shifted_even}
 use lib.Count.{count_trailing_zeros, under, ones, ones_step}
 use Rattle.std.proofs.lemmas.Nat.{div-mul-add, mod-mul-add, shr-shr}
-use Rattle.std.proofs.lemmas.Bool.{cases_Bool, cases_eq, cases_lt, eq-eqb, ne_eqb}
+use Rattle.std.proofs.lemmas.Bool.{cases_eq, eq-eqb, ne_eqb}
 use Rattle.schedule.specs.Lists.{one_if, total, below, up_from}
-use Rattle.machine.specs.Words.{word_of, bit, some_below}
+use Rattle.machine.specs.Words.{word_of, bit}
 
 one_if_low : (b : Bool) → one_if b < 2
 one_if_low true = omega arith

@@ -1,13 +1,13 @@
 -- A call that obeys the tick rule goes on with the life of a machine, and keeps the promise.
-use Rattle.std.proofs.Common.{◌≡◌, ℕ, ◌<◌, min, Bool, List, [], ◌∷◌, ◌++◌, length, None, Option, sym, refl, ap, ◌∙◌, subst, arith}
+use Rattle.std.proofs.Common.{◌≡◌, ℕ, ◌<◌, Bool, List, [], ◌∷◌, ◌++◌, length, None, Option, sym, refl, ap, ◌∙◌, subst, arith}
 use mathlib.Core.Path.{fun_ext}
 use Rattle.std.specs.Option.{option_or, option_map}
 use Rattle.schedule.specs.declared.Part.{Part}
-use Rattle.schedule.specs.Layout.{System, LaidOut, InTime}
+use Rattle.schedule.specs.Layout.{System}
 use Rattle.schedule.specs.Promise.{KeptThroughout}
 use Rattle.schedule.specs.Sameness.{Same}
-use Rattle.schedule.specs.TickRule.{State, Call, Answer, History, Event, history, state_after, started, answers, after_call}
-use Rattle.schedule.proofs.Histories.{history_snoc, state_snoc, same_answers, same_after, same_trans, same_refl}
+use Rattle.schedule.specs.TickRule.{State, Call, Answer, History, history, state_after, started, answers, after_call}
+use Rattle.schedule.proofs.Histories.{history_snoc, state_snoc, same_answers, same_after, same_trans}
 use Rattle.schedule.proofs.Theorems.{sound_throughout}
 use Rattle.tasks.specs.Arrivals.{SameCurves}
 use Rattle.tasks.specs.Numbers.{as_numbered}
@@ -27,7 +27,7 @@ use Rattle.plan.proofs.Verdicts.{LawfulCurves, laid_out, in_time}
 use Rattle.machine.specs.declared.layout.Layout.{Layout}
 use Rattle.machine.specs.declared.Machine.{Machine}
 use Rattle.machine.specs.Layouts.{ByOrder}
-use Rattle.machine.specs.Life.{Lived, Lives, Accepted, LifeGoesOn}
+use Rattle.machine.specs.Life.{Lived, Lives, LifeGoesOn}
 use Rattle.machine.specs.Meaning.{laid_system, system_of, state_of, Obeyed, GoesOn}
 
 -- A machine that has just been started has lived nothing.

@@ -1,10 +1,8 @@
 -- What a machine does at a call is what the tick rule says.
-use Rattle.std.proofs.Common.{◌≡◌, ℕ, ◌-◌, ◌<◌, ◌≤◌, min, Bool, true, false, cond, not, ◌&&◌, eqb, ltb, List, [], ◌∷◌, map, length, get_or, take, set, sym, refl, ap, ◌∙◌, subst, arith}
+use Rattle.std.proofs.Common.{◌≡◌, ℕ, ◌-◌, ◌<◌, ◌≤◌, Bool, true, false, cond, eqb, List, map, get_or, take, set, sym, refl, ap, ◌∙◌, subst, arith}
 use Rattle.std.proofs.lemmas.Bool.{lt-ltb, le-ltb, eq-eqb, ne_eqb, cond-true, cond-false, not_from_true, not_from_false}
-use Rattle.schedule.specs.declared.Part.{Part}
 use Rattle.schedule.specs.Layout.{System, segments}
-use Rattle.schedule.specs.TickRule.{State, Call, release, finish, tick, Answer, taken, ran, refused, answers, leaves, after_call, closed, is_closed, job, hand_over}
-use Rattle.schedule.specs.TickRule as Rule
+use Rattle.schedule.specs.TickRule.{State, Call, release, finish, tick, Answer, taken, refused, answers, leaves, closed, is_closed, job, hand_over}
 use Rattle.schedule.specs.Sameness.{Same}
 use Rattle.schedule.proofs.Histories.{same_refl}
 use Rattle.tasks.specs.Arrivals.{Admitted}

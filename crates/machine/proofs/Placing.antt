@@ -1,14 +1,14 @@
 -- The segments of a task, read off the numbers of its parts: each part's own segment and then those of the next part.
-use Rattle.std.proofs.Common.{◌≡◌, ℕ, zero, suc, ◌+◌, ◌<◌, ◌≤◌, Bool, true, false, cond, eqb, List, [], ◌∷◌, ◌++◌, length, get_or, take, drop, Some, None, Option, sym, refl, ap, ◌∙◌, subst, inl, inr, append_assoc, arith}
-use Rattle.std.proofs.lemmas.List.{get_or_at, take_at, drop_at, take-append-drop, length-take-le, length-append, get_or_past}
-use Rattle.std.proofs.lemmas.Bool.{cases_eq, cases_lt, eq-eqb, ne_eqb, cond-true, cond-false}
+use Rattle.std.proofs.Common.{◌≡◌, ℕ, suc, ◌+◌, ◌<◌, ◌≤◌, cond, eqb, List, [], ◌∷◌, ◌++◌, length, take, drop, Some, sym, refl, ap, ◌∙◌, subst, inl, inr, append_assoc, arith}
+use Rattle.std.proofs.lemmas.List.{get_or_at, take_at, take-append-drop, length-take-le, length-append}
+use Rattle.std.proofs.lemmas.Bool.{cases_eq, eq-eqb, ne_eqb, cond-true, cond-false}
 use Rattle.schedule.specs.declared.Part.{Part}
 use Rattle.schedule.specs.Lists.{total}
 use Rattle.schedule.specs.Layout.{Segment, segments_from, segments, span_of}
 use Rattle.plan.specs.Checks.{part_at}
 use Rattle.schedule.proofs.facts.Lists.{total_append}
 use Rattle.plan.proofs.Totals.{total_more}
-use Rattle.machine.specs.Placing.{next_from, next_part, begin_at, end_at, segment_at, later_at, placed_at, unplaced, from_part}
+use Rattle.machine.specs.Placing.{next_from, next_part, begin_at, end_at, later_at, from_part}
 
 -- The window of a part counts for its own task alone.
 window_own : (p : Part) (i : ℕ) → p.task ≡ i → cond (eqb p.task i) p.window 0 ≡ p.window

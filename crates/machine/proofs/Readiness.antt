@@ -1,10 +1,9 @@
 -- Ready words, task by task.
-use Rattle.std.proofs.Common.{◌≡◌, ℕ, zero, suc, ◌+◌, ◌^◌, ◌<◌, ◌≤◌, Bool, true, false, cond, ◌&&◌, ◌||◌, eqb, ltb, leb, ◌⊎◌, List, length, get_or, set, sym, refl, ap, ◌∙◌, subst, inl, inr, arith}
+use Rattle.std.proofs.Common.{◌≡◌, ℕ, suc, ◌+◌, ◌^◌, ◌<◌, Bool, true, false, ◌&&◌, ◌||◌, eqb, ltb, leb, List, length, get_or, set, sym, refl, ap, ◌∙◌, inl, inr, arith}
 use lib.Bits.{bit_or}
-use Rattle.std.proofs.lemmas.Bool.{cases_Bool, cases_eq, and_from, and_parts, and_left, and_right, eq-eqb, ne_eqb, eqb-true, eqb-false, le-leb, lt-leb, lt-ltb, or_cases}
+use Rattle.std.proofs.lemmas.Bool.{cases_eq, and_from, and_left, and_right, eq-eqb, ne_eqb, le-leb, lt-leb, lt-ltb}
 use Rattle.schedule.specs.declared.Part.{Part}
 use Rattle.schedule.specs.TickRule.{ready_on}
-use Rattle.tasks.specs.Sets.{count_of}
 use Rattle.plan.specs.Checks.{part_at}
 use Rattle.parts.specs.Parts.{parts_of}
 use Rattle.machine.specs.declared.jobs.Job.{Job}
@@ -12,9 +11,9 @@ use Rattle.machine.specs.declared.jobs.Job.TheVariants.{Closed, Waiting, Ready}
 use Rattle.machine.specs.declared.jobs.JobTable.{JobTable}
 use Rattle.machine.specs.declared.layout.Layout.{Layout}
 use Rattle.machine.specs.Jobs.{meant, fits}
-use Rattle.machine.specs.Placing.{begin_at, end_at}
+use Rattle.machine.specs.Placing.{begin_at}
 use Rattle.machine.specs.Layouts.{ready_as, word_up_to}
-use Rattle.machine.specs.Words.{word_of, some_below}
+use Rattle.machine.specs.Words.{some_below}
 use Rattle.machine.proofs.Ageing.{waiting_fits, ready_fits}
 use Rattle.machine.proofs.Bits.{word_same, word_or}
 use Rattle.machine.proofs.Tables.{written}

@@ -1,7 +1,7 @@
 -- The lowest set bit of a ready word names the task that runs.
-use Rattle.std.proofs.Common.{◌≡◌, ℕ, zero, suc, ◌+◌, ◌<◌, ◌≤◌, Bool, true, false, cond, ◌&&◌, ◌||◌, eqb, ltb, ◌⊎◌, List, [], ◌∷◌, length, get_or, sym, refl, ap, ◌∙◌, subst, inl, inr, arith}
+use Rattle.std.proofs.Common.{◌≡◌, ℕ, zero, suc, ◌<◌, ◌≤◌, Bool, true, false, cond, eqb, ltb, ◌⊎◌, List, [], ◌∷◌, get_or, sym, refl, ap, ◌∙◌, subst, inl, inr, arith}
 use lib.Count.{count_trailing_zeros}
-use Rattle.std.proofs.lemmas.Bool.{cases_Bool, cases_eq, cases_lt, and_from, and_parts, or_cases, or_parts, or_right, or_left, eq-eqb, ne_eqb, eqb-true, ltb-true, ltb-false, both_ways}
+use Rattle.std.proofs.lemmas.Bool.{cases_Bool, cases_eq, cases_lt, and_from, and_parts, or_cases, or_right, or_left, eq-eqb, ne_eqb, eqb-true, ltb-true, ltb-false, both_ways}
 use Rattle.schedule.specs.Lists.{◌∈◌, below}
 use Rattle.schedule.specs.Layout.{System}
 use Rattle.schedule.specs.TickRule.{State, job, ready_on, rank, lowest, ready_tasks, runs_on}
@@ -16,7 +16,7 @@ use Rattle.machine.specs.declared.layout.Layout.{Layout}
 use Rattle.machine.specs.Jobs.{meant}
 use Rattle.machine.specs.Layouts.{ByOrder, ready_as, table_word}
 use Rattle.machine.specs.Meaning.{laid_system, table_state}
-use Rattle.machine.specs.Words.{word_of, some_below}
+use Rattle.machine.specs.Words.{some_below}
 use Rattle.machine.proofs.Bits.{Lowest, trailing_lowest}
 use Rattle.machine.proofs.States.{meant_job}
 

@@ -1,12 +1,12 @@
 -- How the tables of a layout grow by one part.
-use Rattle.std.proofs.Common.{◌≡◌, ℕ, zero, suc, ◌+◌, ◌*◌, ◌<◌, ◌≤◌, Bool, true, false, cond, eqb, List, [], ◌∷◌, length, get_or, take, drop, set, replicate, Some, None, Option, sym, refl, ap, ◌∙◌, subst, inl, inr, arith}
-use Rattle.std.proofs.lemmas.List.{get_or-set_same, get_or-set_other, drop_more, drop_all, get_or-replicate, get_or_past}
-use Rattle.std.proofs.lemmas.Bool.{cases_eq, cases_lt, eq-eqb, ne_eqb, cond-true, cond-false}
+use Rattle.std.proofs.Common.{◌≡◌, ℕ, zero, suc, ◌+◌, ◌*◌, ◌<◌, ◌≤◌, Bool, true, false, cond, eqb, List, length, get_or, take, drop, set, replicate, Some, None, Option, sym, refl, ap, ◌∙◌, subst, inl, inr, arith}
+use Rattle.std.proofs.lemmas.List.{get_or-set_same, get_or-set_other, drop_more, drop_all}
+use Rattle.std.proofs.lemmas.Bool.{cases_eq, eq-eqb, ne_eqb}
 use Rattle.schedule.specs.declared.Part.{Part}
 use Rattle.schedule.specs.Layout.{span_of}
 use Rattle.plan.specs.Checks.{part_at}
 use Rattle.plan.proofs.Totals.{total_more}
-use Rattle.machine.specs.Placing.{next_from, next_part, begin_at, Runnable}
+use Rattle.machine.specs.Placing.{next_from, next_part, Runnable}
 
 -- What stands in a list after a write.
 pub written : {X : Type 0} (xs : List X) (t i : ℕ) (v d : X) → t < length xs → get_or (set xs t v) i d ≡ cond (eqb t i) v (get_or xs i d)

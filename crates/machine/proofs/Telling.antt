@@ -1,10 +1,9 @@
 -- What ready words tell: which tasks are ready, how many, and which runs.
-use Rattle.std.proofs.Common.{◌≡◌, ℕ, zero, suc, ◌+◌, ◌<◌, ◌≤◌, Bool, true, false, cond, ◌&&◌, ◌||◌, eqb, ◌⊎◌, List, length, get_or, sym, refl, ap, ◌∙◌, subst, ap₂, inl, inr, arith}
+use Rattle.std.proofs.Common.{◌≡◌, ℕ, zero, suc, ◌+◌, ◌<◌, ◌≤◌, Bool, true, false, ◌&&◌, ◌||◌, eqb, get_or, sym, refl, ap, ◌∙◌, subst, ap₂, inl, inr, arith}
 use lib.Count.{count_trailing_zeros, trailing_of_zero, ones}
 use Rattle.std.proofs.lemmas.Bool.{cases_Bool, cases_eq, cases_lt, and_from, and_parts, and_left, eq-eqb, ne_eqb, eqb-true, both_ways}
 use Rattle.schedule.specs.Lists.{total, up_from, below, one_if}
-use Rattle.schedule.specs.Layout.{System}
-use Rattle.schedule.specs.TickRule.{State, job, ready_on, rank, runs_on}
+use Rattle.schedule.specs.TickRule.{job, ready_on, rank}
 use Rattle.schedule.proofs.facts.Lists.{total_same, total_plus, below_in}
 use Rattle.tasks.proofs.Orderings.{total_more}
 use Rattle.tasks.specs.Sets.{count_of}
@@ -16,10 +15,9 @@ use Rattle.machine.specs.declared.layout.Layout.{Layout}
 use Rattle.machine.specs.Jobs.{meant}
 use Rattle.machine.specs.Layouts.{ByOrder, ready_as, table_word}
 use Rattle.machine.specs.Meaning.{laid_system, table_state}
-use Rattle.machine.specs.Words.{word_of, bit, some_below, ready_rank, ready_tasks_on, ReadyWord}
-use Rattle.machine.proofs.Bits.{Lowest, word_same, word_none, word_bit, word_ones, trailing_lowest}
-use Rattle.machine.proofs.Readiness.{some_more}
-use Rattle.machine.proofs.Running.{some_found, some_here, some_none, none_runs, lowest_runs, ready_job}
+use Rattle.machine.specs.Words.{bit, some_below, ready_rank, ready_tasks_on, ReadyWord}
+use Rattle.machine.proofs.Bits.{word_same, word_none, word_bit, word_ones, trailing_lowest}
+use Rattle.machine.proofs.Running.{some_found, some_here, none_runs, lowest_runs, ready_job}
 use Rattle.machine.proofs.States.{meant_job}
 
 some_same : (n : ℕ) (s t : ℕ → Bool) → ((i : ℕ) → i < n → s i ≡ t i) → some_below n s ≡ some_below n t

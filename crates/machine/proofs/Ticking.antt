@@ -1,10 +1,8 @@
 -- A tick of the machine is a tick of the tick rule.
-use Rattle.std.proofs.Common.{◌≡◌, ℕ, zero, suc, ◌+◌, ◌^◌, ◌<◌, ◌≤◌, min, Bool, true, false, cond, eqb, ltb, leb, ◌⊎◌, List, [], ◌∷◌, map, length, get_or, take, sym, refl, ap, ◌∙◌, subst, inl, inr, arith}
+use Rattle.std.proofs.Common.{◌≡◌, ℕ, ◌+◌, ◌^◌, ◌<◌, ◌≤◌, Bool, true, false, eqb, List, map, length, get_or, take, sym, refl, ap, ◌∙◌, subst, arith}
 use Rattle.std.proofs.lemmas.List.{get_or-take, get_or_default, length-take-le, length-map}
-use Rattle.std.proofs.lemmas.Bool.{cases_eq, eq-eqb, ne_eqb, lt-leb, le-leb, lt-ltb, le-ltb, cond-true, cond-false, both_ways}
-use Rattle.schedule.specs.declared.Part.{Part}
-use Rattle.schedule.specs.Layout.{System}
-use Rattle.schedule.specs.TickRule.{State, Call, tick, Answer, ran, refused, answer, answers, job, ready_on, runs_on, ran_in, aged, ticked, closed, last_clock}
+use Rattle.std.proofs.lemmas.Bool.{ne_eqb, lt-leb, le-leb, lt-ltb, le-ltb, cond-true, cond-false, both_ways}
+use Rattle.schedule.specs.TickRule.{tick, ran, refused, answer, job, ready_on, runs_on, ran_in, aged, ticked}
 use Rattle.schedule.proofs.facts.Calls.{job_ticked, length_ticked, jobs_equal}
 use Rattle.schedule.proofs.facts.Running.{answer_equal}
 use Rattle.tasks.specs.Arrivals.{Advanced}

@@ -1,7 +1,7 @@
 -- The system that a machine runs, and the state of the tick rule that it is in.
-use Rattle.std.specs.Prelude.{◌≡◌, ℕ, ◌<◌, Bool, true, false, List, [], ◌∷◌, ◌++◌, map, length, take, Ok, Err, Result, slice_index}
+use Rattle.std.specs.Prelude.{◌≡◌, ℕ, ◌<◌, Bool, List, map, take, Ok, Err, Result, slice_index}
 use Rattle.schedule.specs.Layout.{System}
-use Rattle.schedule.specs.TickRule.{State, Call, Answer, taken, ran, refused, answers, after_call, runs_on}
+use Rattle.schedule.specs.TickRule.{State, Call, Answer, refused, answers, after_call, runs_on}
 use Rattle.schedule.specs.Sameness.{Same}
 use Rattle.tasks.specs.Arrivals.{SameCurves}
 use Rattle.tasks.specs.Numbers.{as_numbered}

@@ -1,5 +1,5 @@
 -- Words of bits, and what a ready word tells.
-use Rattle.std.specs.Prelude.{◌≡◌, ℕ, zero, suc, ◌+◌, ◌*◌, ◌/◌, ◌%◌, ◌^◌, ◌<◌, ◌≤◌, Bool, true, false, cond, ◌&&◌, ◌||◌, Ok, Err, Result, ◌==◌, ◌≢◌}
+use Rattle.std.specs.Prelude.{◌≡◌, ℕ, zero, suc, ◌+◌, ◌*◌, ◌/◌, ◌%◌, ◌^◌, ◌<◌, ◌≤◌, Bool, false, ◌&&◌, ◌||◌, Ok, Err, Result, ◌==◌, ◌≢◌}
 use Rattle.std.specs.Int.Count.{count_trailing_zeros}
 use Rattle.schedule.specs.Lists.{one_if, total, below}
 use Rattle.schedule.specs.Layout.{System}

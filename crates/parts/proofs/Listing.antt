@@ -1,5 +1,5 @@
 -- The parts that a fixed array lists, after a write.
-use Rattle.std.proofs.Common.{◌≡◌, ℕ, zero, suc, ◌+◌, ◌<◌, ◌≤◌, List, [], ◌∷◌, ◌++◌, length, get_or, take, set, refl, ap, ◌∙◌, arith}
+use Rattle.std.proofs.Common.{◌≡◌, ℕ, zero, suc, ◌+◌, ◌<◌, ◌≤◌, List, [], ◌∷◌, ◌++◌, length, get_or, take, set, refl, ap, arith}
 use Rattle.schedule.specs.declared.Part.{Part}
 use Rattle.std.proofs.lemmas.List.{length-take-le, take_more_set}
 use Rattle.parts.specs.declared.lists.PartList.{PartList}

@@ -1,5 +1,5 @@
 -- The demand on a processor never falls as the stretch grows, and a stretch of t ticks admits at most t releases.
-use Rattle.std.proofs.Common.{◌≡◌, ℕ, zero, suc, ◌+◌, ◌-◌, ◌*◌, ◌<◌, ◌≤◌, Bool, true, false, cond, leb, ◌⊎◌, List, [], ◌∷◌, Some, None, Option, ap, inl, inr, mul-le-mul_right, arith}
+use Rattle.std.proofs.Common.{◌≡◌, ℕ, zero, suc, ◌+◌, ◌*◌, ◌<◌, ◌≤◌, true, false, cond, Some, None, ap, inl, inr, mul-le-mul_right, arith}
 use Rattle.std.proofs.lemmas.Bool.{cases_lt, le-leb, lt-leb, cond-true, and_from, eq-eqb}
 use Rattle.schedule.specs.declared.Part.{Part}
 use Rattle.schedule.specs.Curves.{Curve}

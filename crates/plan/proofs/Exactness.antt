@@ -1,10 +1,10 @@
 -- The verdict is exact: a plan that passes the checks before lateness is refused as late exactly when some calls make a part late.
-use Rattle.std.proofs.Common.{◌≡◌, ℕ, ◌<◌, Bool, true, false, ltb, List, length, Some, None, Ok, Err, Option, Result, sym, refl, ap, ◌∙◌, subst, arith}
+use Rattle.std.proofs.Common.{◌≡◌, ℕ, ◌<◌, Bool, true, false, ltb, List, length, Some, None, Err, Option, Result, sym, refl, ap, subst, arith}
 use Rattle.std.specs.Option.{option_or, option_map}
 use Rattle.std.specs.Bool.{then_some}
 use Rattle.schedule.specs.declared.Part.{Part}
 use Rattle.schedule.specs.Curves.{Subadditive}
-use Rattle.schedule.specs.Layout.{System, InTime}
+use Rattle.schedule.specs.Layout.{System}
 use Rattle.schedule.proofs.Theorems.{exact}
 use Rattle.tasks.specs.Numbers.{as_numbered}
 use Rattle.tasks.specs.Searches.{first_where}

@@ -1,18 +1,14 @@
 -- What it means that a plan's numbers pass, and that a plan passes the check.
-use Rattle.std.proofs.Common.{◌≡◌, ℕ, zero, suc, ◌+◌, ◌*◌, ◌<◌, ◌≤◌, Bool, true, false, cond, not, ◌&&◌, ◌||◌, T, eqb, ltb, leb, ◌⊎◌, List, [], ◌∷◌, ◌++◌, length, get_or, is_some, Some, None, Option, sym, refl, ap, ◌∙◌, subst, inl, inr, arith}
+use Rattle.std.proofs.Common.{◌≡◌, ℕ, ◌<◌, ◌≤◌, Bool, true, false, not, eqb, ltb, leb, List, length, is_some, Some, None, Option, refl, arith}
 use Rattle.std.specs.Option.{option_or, option_map}
 use Rattle.std.specs.Bool.{then_some}
-use Rattle.std.proofs.lemmas.Bool.{or_parts, and_parts, not-false, not-true, leb-true, leb-false, ltb-false, eqb-true, eqb-false, eq-eqb, and_from, and_left, and_right, ne_eqb, cases_Bool, both_ways, cond-true, cond-false}
+use Rattle.std.proofs.lemmas.Bool.{or_parts, and_parts, not-false, leb-true, leb-false, ltb-false, eqb-true, eqb-false, eq-eqb, and_from, both_ways}
 use Rattle.schedule.specs.declared.Part.{Part}
-use Rattle.schedule.specs.Lists.{◌∈◌, total, below}
-use Rattle.schedule.specs.Layout.{span_of, work_of}
-use Rattle.schedule.proofs.facts.Lists.{in_here, in_there, in_none, in_cases, in_below, total_le, total_none, total_plus, total_at}
-use Rattle.tasks.specs.Searches.{first_where}
+use Rattle.schedule.specs.Layout.{work_of}
 use Rattle.tasks.specs.Sets.{on_scale, count_of, cost_of}
 use Rattle.tasks.specs.declared.set.TaskSet.{TaskSet}
 use Rattle.tasks.proofs.Searches.{none_where}
-use Rattle.parts.specs.declared.fault.PlanFault.{PlanFault}
-use Rattle.plan.specs.Checks.{part_at, off_scale, stranger, same_place, twin, miscount, number_fault, numbers_pass}
+use Rattle.plan.specs.Checks.{part_at, off_scale, stranger, same_place, twin, miscount, number_fault}
 
 -- Where nothing is wrong, neither of two checks finds anything.
 pub or_none : {A : Type 0} (a b : Option A) → option_or a b ≡ None → (a ≡ None) × (b ≡ None)

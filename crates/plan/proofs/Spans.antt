@@ -1,10 +1,10 @@
 -- The windows of one task never add up to more than 800,000: it has at most one part on each of at most 8 processors.
-use Rattle.std.proofs.Common.{◌≡◌, ℕ, zero, suc, ◌+◌, ◌*◌, ◌<◌, ◌≤◌, Bool, true, false, cond, ◌&&◌, eqb, ◌⊎◌, List, [], ◌∷◌, ◌++◌, length, get_or, sym, refl, ap, ◌∙◌, subst, inl, inr, arith}
+use Rattle.std.proofs.Common.{◌≡◌, ℕ, zero, suc, ◌+◌, ◌<◌, ◌≤◌, cond, ◌&&◌, eqb, List, [], ◌∷◌, ◌++◌, length, sym, refl, ap, ◌∙◌, subst, inl, inr, arith}
 use Rattle.std.proofs.lemmas.Bool.{and_parts, and_from, eqb-true, eq-eqb, cases_Bool, cond-true, cond-false}
 use Rattle.schedule.specs.declared.Part.{Part}
 use Rattle.schedule.specs.Lists.{◌∈◌, total, below}
 use Rattle.schedule.specs.Layout.{span_of}
-use Rattle.schedule.proofs.facts.Lists.{in_here, in_there, in_below, below_in, total_le, total_none, total_plus, total_at}
+use Rattle.schedule.proofs.facts.Lists.{in_here, in_there, in_below, total_le, total_none, total_plus, total_at}
 use Rattle.tasks.specs.Sets.{count_of}
 use Rattle.tasks.specs.declared.set.TaskSet.{TaskSet}
 use Rattle.plan.specs.Checks.{part_at}

@@ -16,7 +16,7 @@ use Rattle.tasks.proofs.Orderings.{ordered}
 use Rattle.tasks.proofs.Searches.{none_where, first_none}
 use Rattle.tasks.proofs.Sets.{cost_scaled}
 use Rattle.parts.specs.declared.fault.PlanFault.TheVariants.{Late}
-use Rattle.plan.specs.Checks.{part_at, overlap, late, earlier_fault, late_fault, verdict}
+use Rattle.plan.specs.Checks.{part_at, overlap, late, earlier_fault, late_fault}
 use Rattle.plan.specs.Responses.{response_within}
 use Rattle.plan.specs.Systems.{system}
 use Rattle.plan.proofs.Passing.{passed, or_none, map_none}

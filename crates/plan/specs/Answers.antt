@@ -5,8 +5,7 @@ use Rattle.std.specs.Bool.{then_some}
 use Rattle.schedule.specs.declared.Part.{Part}
 use Rattle.schedule.specs.Curves.{Subadditive}
 use Rattle.schedule.specs.Layout.{System}
-use Rattle.schedule.specs.Lists.{◌∈◌}
-use Rattle.schedule.specs.Promise.{SomeLate, Plain}
+use Rattle.schedule.specs.Promise.{SomeLate}
 use Rattle.schedule.specs.TickRule.{Call, history, started}
 use Rattle.tasks.specs.Searches.{first_where}
 use Rattle.tasks.specs.Sets.{count_of}

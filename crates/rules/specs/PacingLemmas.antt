@@ -2,7 +2,7 @@
 use Rattle.std.proofs.Common.{inl, inr, arith, mul-le-mul_left}
 use Rattle.std.specs.Prelude.{◌≡◌, ℕ, ◌+◌, ◌*◌, ◌<◌, ◌≤◌, min}
 use Rattle.std.proofs.lemmas.Bool.{cases_lt}
-use Rattle.schedule.specs.Curves.{Curve, Subadditive}
+use Rattle.schedule.specs.Curves.{Subadditive}
 use Rattle.tasks.specs.Numbers.{rounded_up}
 use Rattle.rules.specs.Pacing.{Pace, Paced}
 use Rattle.rules.specs.Quotients.{reaches, least}

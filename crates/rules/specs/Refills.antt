@@ -9,7 +9,7 @@ use Rattle.std.proofs.lemmas.Bool.Decides.{nat_tests}
 use Rattle.schedule.specs.Curves.{Curve, Subadditive}
 use Rattle.tasks.specs.Arrivals.{Left}
 use Rattle.tasks.specs.Numbers.{rounded_up}
-use Rattle.rules.specs.Pacing.{Pace, Paced}
+use Rattle.rules.specs.Pacing.{Paced}
 use Rattle.rules.specs.Tokens.{full_curve, rest_curve}
 use Rattle.rules.specs.PacingLemmas.{paced_subadditive}
 use Rattle.rules.specs.Quotients.{reaches, least}

@@ -6,7 +6,7 @@ use Rattle.std.proofs.lemmas.Bool.{cases_lt, cases_eq, eq-eqb, ne_eqb}
 use Rattle.schedule.specs.Curves.{Curve, Subadditive}
 use Rattle.tasks.specs.Arrivals.{Left, AllSubadditive}
 use Rattle.tasks.specs.Numbers.{rounded_up}
-use Rattle.rules.specs.Pacing.{Pace, Paced, AllPaced}
+use Rattle.rules.specs.Pacing.{Paced, AllPaced}
 use Rattle.rules.specs.Spacing.{spacing, spaced_curve}
 use Rattle.rules.specs.declared.spaced.Spaced.{Spaced}
 use Rattle.rules.specs.Quotients.{rounded_none, rounded_one, rounded_grows, rounded_step, rounded_back, rounded_sum}

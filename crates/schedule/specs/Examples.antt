@@ -2,7 +2,7 @@
 use Rattle.std.specs.Prelude.{◌≡◌, ℕ, ◌+◌, ◌-◌, ◌/◌, Bool, ◌&&◌, ◌||◌, List, [], ◌∷◌, ◌++◌, map, length, get_or, replicate, ◌==◌, nat_lt, slice_index_or}
 use Rattle.schedule.specs.declared.Part.{Part}
 use Rattle.schedule.specs.Layout.{System, LaidOut, InTime, Response}
-use Rattle.schedule.specs.TickRule.{Call, release, finish, tick, Answer, taken, ran, refused, History, history, started}
+use Rattle.schedule.specs.TickRule.{Call, release, finish, tick, Answer, taken, ran, refused, history, started}
 use Rattle.schedule.specs.Promise.{SomeLate}
 
 -- A part by its task, its processor, its cost and its window.

@@ -1,5 +1,5 @@
 -- A plan laid out in time: the segments of each task, the priority order and the arrival curves.
-use Rattle.std.specs.Prelude.{◌≡◌, ℕ, zero, suc, ◌+◌, ◌*◌, ◌<◌, ◌≤◌, Bool, true, false, cond, ◌&&◌, T, ◌⊎◌, List, [], ◌∷◌, ◌++◌, length, ◌==◌, ◌≢◌}
+use Rattle.std.specs.Prelude.{◌≡◌, ℕ, ◌+◌, ◌*◌, ◌<◌, ◌≤◌, Bool, cond, ◌&&◌, List, [], ◌∷◌, ◌++◌, length, ◌==◌, ◌≢◌}
 use Rattle.schedule.specs.declared.Part.{Part}
 use Rattle.schedule.specs.Lists.{◌∈◌, total}
 use Rattle.schedule.specs.Orders.{Ordered}

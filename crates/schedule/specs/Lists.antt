@@ -1,5 +1,5 @@
 -- Small words on lists that the other pages use.
-use Rattle.std.specs.Prelude.{◌≡◌, ℕ, zero, suc, ◌+◌, ◌<◌, ◌≤◌, Bool, true, false, cond, not, ◌&&◌, ◌||◌, List, [], ◌∷◌, ◌++◌}
+use Rattle.std.specs.Prelude.{◌≡◌, ℕ, zero, suc, ◌+◌, Bool, cond, List, [], ◌∷◌, ◌++◌}
 
 -- x stands in the list.
 abbrev pub ◌∈◌ : {A : Type 0} → A → List A → Type 0

@@ -1,5 +1,5 @@
 -- Priority orders: of two tasks, which goes first.
-use Rattle.std.specs.Prelude.{◌≡◌, ℕ, ◌<◌, Bool, T, ◌⊎◌, ◌≢◌}
+use Rattle.std.specs.Prelude.{ℕ, ◌<◌, Bool, T, ◌⊎◌, ◌≢◌}
 
 -- The laws of a priority order on tasks 0 to n - 1: no task before itself, of two different tasks exactly one first, and transitive.
 pub record Ordered (n : ℕ) (before : ℕ → ℕ → Bool) : Type 0 where

@@ -1,5 +1,5 @@
 -- What a machine started from an accepted plan keeps, read off its calls and answers alone.
-use Rattle.std.specs.Prelude.{◌≡◌, ℕ, zero, suc, ◌+◌, ◌<◌, ◌≤◌, Bool, true, false, cond, not, ◌||◌, T, List, [], ◌∷◌, ◌++◌, length, ◌==◌, ◌≢◌, slice_index_or}
+use Rattle.std.specs.Prelude.{◌≡◌, ℕ, zero, suc, ◌<◌, ◌≤◌, Bool, true, false, cond, ◌||◌, List, [], ◌∷◌, ◌++◌, ◌==◌, ◌≢◌, slice_index_or}
 use Rattle.schedule.specs.Lists.{◌∈◌, total, below, one_if}
 use Rattle.schedule.specs.Layout.{Segment, System, LaidOut, InTime, segments, span_of}
 use Rattle.schedule.specs.Curves.{Subadditive}

@@ -1,5 +1,5 @@
 -- When two states, or two systems, cannot be told apart by any call.
-use Rattle.std.specs.Prelude.{◌≡◌, ℕ, ◌<◌, ◌≤◌, Bool}
+use Rattle.std.specs.Prelude.{◌≡◌, ℕ, ◌<◌, ◌≤◌}
 use Rattle.schedule.specs.Layout.{System}
 use Rattle.schedule.specs.TickRule.{State}
 

@@ -1,5 +1,5 @@
 -- What is read is within its limits, and there is as much of it as there should be.
-use Rattle.std.proofs.Common.{◌≡◌, ℕ, zero, suc, ◌-◌, ◌<◌, ◌≤◌, List, [], ◌∷◌, length, get_or, take, refl, ap, subst, arith}
+use Rattle.std.proofs.Common.{◌≡◌, ℕ, zero, suc, ◌<◌, ◌≤◌, List, [], ◌∷◌, length, get_or, take, refl, ap, subst, arith}
 use Rattle.std.proofs.lemmas.List.{get_or-take}
 use Rattle.sheet.specs.declared.symbol.Limits.{Limits}
 use Rattle.sheet.specs.declared.symbol.Stop.{Stop}

@@ -8,7 +8,6 @@ use Rattle.sheet.specs.declared.fault.SheetFault.{SheetFault}
 use Rattle.tasks.specs.declared.fault.SetFault.{SetFault}
 use Rattle.parts.specs.declared.fault.PlanFault.{PlanFault}
 use Rattle.parts.specs.declared.lists.Proposal.{Proposal}
-use Rattle.sheet.specs.Faults as Sheets
 use Rattle.tasks.specs.Faults as Sets
 use Rattle.parts.specs.Faults as Plans
 use Rattle.sheets.specs.declared.TaskSheet.{TaskSheet}

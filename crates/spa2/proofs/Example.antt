@@ -1,7 +1,6 @@
 -- The definition computes: three tasks on two processors, by rate-monotonic order and spaced arrivals.
-use Rattle.std.proofs.Common.{◌≡◌, ℕ, ◌+◌, ◌-◌, ◌/◌, Bool, ◌&&◌, ◌||◌, eqb, ltb, List, [], ◌∷◌, get_or, Ok, Err, Result, refl}
+use Rattle.std.proofs.Common.{◌≡◌, ℕ, ◌+◌, ◌-◌, ◌/◌, Bool, ◌&&◌, ◌||◌, eqb, ltb, [], ◌∷◌, get_or, Ok, refl}
 use Rattle.schedule.specs.declared.Part.{Part}
-use Rattle.parts.specs.declared.fault.PlanFault.{PlanFault}
 use Rattle.spa2.specs.Placing.{Tasks}
 use Rattle.spa2.specs.Plans.{spa2}
 

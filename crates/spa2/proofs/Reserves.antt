@@ -1,5 +1,5 @@
 -- The numbers in reserve, once the front one is taken.
-use Rattle.std.proofs.Common.{◌≡◌, ℕ, zero, suc, ◌+◌, ◌<◌, ◌≤◌, List, [], ◌∷◌, length, get_or, Some, None, Option, sym, refl, ap, subst, arith}
+use Rattle.std.proofs.Common.{◌≡◌, ℕ, suc, ◌<◌, List, ◌∷◌, length, get_or, Some, None, Option, ap, subst, arith}
 use Rattle.front.specs.Fronts.{Taken}
 use Rattle.spa2.specs.Placing.{others}
 

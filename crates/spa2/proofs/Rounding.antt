@@ -1,5 +1,5 @@
 -- Loads are rounded up and cuts are rounded down, so that a cut never loads a processor beyond its threshold.
-use Rattle.std.proofs.Common.{◌≡◌, ℕ, zero, suc, ◌+◌, ◌-◌, ◌*◌, ◌/◌, ◌%◌, ◌<◌, ◌≤◌, min, ◌⊎◌, sym, ap, subst, inl, inr, mul-le-mul_right, mod-lt, mul_comm, add-mul, mul-le-mul, div-add-mod', le-div_iff_mul-le, div-mul-le_self, arith}
+use Rattle.std.proofs.Common.{◌≡◌, ℕ, ◌+◌, ◌-◌, ◌*◌, ◌/◌, ◌%◌, ◌<◌, ◌≤◌, min, ap, inl, inr, mul-le-mul_right, mod-lt, add-mul, mul-le-mul, div-add-mod', le-div_iff_mul-le, div-mul-le_self, arith}
 use native.Mathlib.Nat.{div-le_of_le-mul}
 use Rattle.std.proofs.lemmas.Bool.{cases_lt, cases_order, cases_eq}
 use Rattle.spa2.specs.Loads.{load_of, cut_of}

@@ -1,10 +1,9 @@
 -- What a placed piece leaves, put together from what each step of the placing leaves.
-use Rattle.std.proofs.Common.{◌≡◌, ℕ, zero, suc, ◌+◌, ◌-◌, ◌<◌, ◌≤◌, min, false, List, [], ◌∷◌, length, get_or, set, sym, refl, ap, ◌∙◌, subst, arith}
-use Rattle.schedule.specs.declared.Part.{Part}
+use Rattle.std.proofs.Common.{◌≡◌, ℕ, ◌+◌, ◌-◌, ◌≤◌, min, ◌∷◌, set, ap, ◌∙◌, arith}
 use Rattle.spa2.specs.declared.piece.Piece.{Piece}
 use Rattle.spa2.specs.declared.state.Processor.{Processor}
 use Rattle.spa2.specs.declared.state.Choice.{Choice}
-use Rattle.spa2.specs.declared.state.Standing.TheVariants.{Open, Reserved, Full}
+use Rattle.spa2.specs.declared.state.Standing.TheVariants.{Full}
 use Rattle.spa2.specs.Loads.{load_of}
 use Rattle.spa2.specs.Placing.{Tasks, State, number_of, processor_at, cut_at, with_cut, split}
 

@@ -1,18 +1,17 @@
 -- From an empty start to the placed parts, and from those to the plan.
-use Rattle.std.proofs.Common.{◌≡◌, ℕ, zero, suc, ◌+◌, ◌-◌, ◌<◌, ◌≤◌, Bool, true, false, cond, ◌&&◌, ◌||◌, eqb, ltb, leb, List, [], ◌∷◌, ◌++◌, length, take, replicate, IfErr, Some, Ok, Err, Option, Result, sym, refl, ap, ◌∙◌, subst, inl, inr, arith, length-append}
+use Rattle.std.proofs.Common.{◌≡◌, ℕ, zero, suc, ◌+◌, ◌-◌, ◌≤◌, Bool, cond, ◌||◌, eqb, ltb, List, [], ◌∷◌, ◌++◌, length, take, replicate, IfErr, Some, Ok, Err, Option, Result, sym, refl, ap, ◌∙◌, inl, inr, arith, length-append}
 use Rattle.std.proofs.lemmas.List.{length-replicate}
-use Rattle.std.proofs.lemmas.Bool.{cases_Bool, cond_both, and_from, le-leb, ne_eqb, le-ltb, both_ways, or_from}
+use Rattle.std.proofs.lemmas.Bool.{cases_Bool, and_from, le-leb, ne_eqb, le-ltb, both_ways, or_from}
 use Rattle.schedule.specs.declared.Part.{Part}
 use Rattle.parts.specs.Faults.{shown}
-use Rattle.parts.specs.Parts.{Proposed, plan_of}
+use Rattle.parts.specs.Parts.{Proposed}
 use Rattle.parts.specs.declared.fault.PlanFault.{PlanFault}
 use Rattle.parts.specs.declared.fault.PlanFault.TheVariants.{Squeezed}
 use Rattle.parts.specs.declared.lists.Proposal.{Proposal}
-use Rattle.spa2.specs.declared.piece.Piece.{Piece}
 use Rattle.spa2.specs.declared.state.Processor.{Processor}
 use Rattle.spa2.specs.Placing.{Tasks, State, started, visited_from, turns, parts_placed, weight}
 use Rattle.spa2.specs.Plans.{answered, refusal_of, finished, finished_if, spa2}
-use Rattle.spa2.specs.Windows.{with_own_window, window_of, windowed_from, windowed}
+use Rattle.spa2.specs.Windows.{with_own_window, window_of, windowed_from}
 use Rattle.spa2.proofs.Keeping.{ok_same, err_never, placed_some, visits_keep}
 use Rattle.spa2.proofs.Visits.{Visiting, visited_visiting}
 

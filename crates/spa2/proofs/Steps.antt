@@ -1,10 +1,9 @@
 -- Facts on the numbers of a task set, and on one more step of a recursion over its tasks.
-use Rattle.std.proofs.Common.{◌≡◌, ℕ, zero, suc, ◌+◌, ◌-◌, ◌*◌, ◌<◌, ◌≤◌, cond, ltb, get_or, sym, refl, ap, ◌∙◌, subst, inl, inr, arith}
-use Rattle.std.proofs.lemmas.Bool.{cases_lt, lt-ltb, le-ltb}
+use Rattle.std.proofs.Common.{◌≡◌, ℕ, suc, ◌+◌, ◌-◌, ◌<◌, ◌≤◌, ap, inl, inr, arith}
+use Rattle.std.proofs.lemmas.Bool.{cases_lt, le-ltb}
 use Rattle.tasks.specs.declared.set.TaskSet.{TaskSet}
-use Rattle.tasks.specs.Sets.{count_of, period_of, cost_of}
+use Rattle.tasks.specs.Sets.{period_of, cost_of}
 use Rattle.tasks.proofs.Sets.{period_scaled, cost_scaled}
-use Rattle.spa2.specs.Loads.{load_of}
 use Rattle.spa2.specs.Placing.{Tasks, State, tasks_of, load_at, loads_from, visited, visited_from}
 use Rattle.spa2.proofs.Rounding.{load_whole}
 

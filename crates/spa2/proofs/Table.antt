@@ -1,5 +1,5 @@
 -- The rule of the threshold table, tested once over all of its entries.
-use Rattle.std.proofs.Common.{◌≡◌, ℕ, zero, suc, ◌+◌, ◌-◌, ◌*◌, ◌^◌, ◌<◌, ◌≤◌, min, max, Bool, true, false, not, ◌&&◌, leb, ◌⊎◌, List, [], ◌∷◌, length, get_or, sym, refl, ap, subst, inl, inr, arith}
+use Rattle.std.proofs.Common.{◌≡◌, ℕ, zero, suc, ◌+◌, ◌-◌, ◌*◌, ◌^◌, ◌<◌, ◌≤◌, Bool, true, not, ◌&&◌, leb, List, [], ◌∷◌, length, get_or, refl, subst, inl, inr, arith}
 use native.Mathlib.Nat.{pow-le-pow_left}
 use Rattle.std.proofs.lemmas.Bool.{and_parts, leb-true, leb-false, not-true, cases_lt}
 use Rattle.spa2.specs.Thetas.{Threshold, thetas, theta_of, as_counted}

@@ -1,5 +1,5 @@
 -- One turn further.
-use Rattle.std.proofs.Common.{◌≡◌, ℕ, zero, suc, ◌+◌, ◌-◌, ◌<◌, ◌≤◌, List, [], ◌∷◌, length, Some, None, Ok, Err, Option, Result, sym, refl, ap, ◌∙◌, subst, arith}
+use Rattle.std.proofs.Common.{◌≡◌, ℕ, zero, suc, List, [], ◌∷◌, Some, None, Ok, Err, Option, Result, ap, ◌∙◌}
 use Rattle.schedule.specs.declared.Part.{Part}
 use Rattle.parts.specs.declared.fault.PlanFault.{PlanFault}
 use Rattle.parts.specs.declared.fault.PlanFault.TheVariants.{Unplaced}

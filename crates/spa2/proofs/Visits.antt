@@ -1,10 +1,9 @@
 -- What holds while the tasks are visited.
-use Rattle.std.proofs.Common.{◌≡◌, ℕ, zero, suc, ◌+◌, ◌-◌, ◌*◌, ◌<◌, ◌≤◌, true, ◌&&◌, leb, List, [], ◌∷◌, length, get_or, set, replicate, sym, refl, ap, ◌∙◌, subst, arith, length-append, length-set}
+use Rattle.std.proofs.Common.{◌≡◌, ℕ, zero, suc, ◌+◌, ◌-◌, ◌*◌, ◌≤◌, ◌&&◌, leb, [], ◌∷◌, length, refl, ◌∙◌, arith, length-append, length-set}
 use Rattle.std.proofs.lemmas.Bool.{cond_both, and_parts, leb-true}
 use Rattle.spa2.specs.declared.state.Standing.TheVariants.{Reserved}
 use Rattle.spa2.specs.Loads.{heavy}
-use Rattle.spa2.specs.Placing.{Tasks, State, load_at, threshold, followers, free, goes_beforehand, beforehand, pieced, visited, visited_from, placed, weight}
-use Rattle.spa2.proofs.Weights.{opens_few}
+use Rattle.spa2.specs.Placing.{Tasks, State, load_at, threshold, followers, free, goes_beforehand, beforehand, pieced, visited, visited_from, placed}
 
 -- Of i tasks visited, each is a piece or was placed on a processor of its own, which is in reserve.
 pub record Visiting (s : State) (i : ℕ) : Type 0 where

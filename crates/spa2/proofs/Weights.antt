@@ -1,8 +1,8 @@
 -- Every turn leaves a state of less weight: it places a piece whole, or fills a processor.
-use Rattle.std.proofs.Common.{◌≡◌, ℕ, zero, suc, ◌+◌, ◌-◌, ◌<◌, ◌≤◌, Bool, true, false, cond, leb, List, [], ◌∷◌, ◌++◌, length, get_or, set, Some, None, Option, sym, refl, ap, ◌∙◌, subst, arith, length-append}
+use Rattle.std.proofs.Common.{◌≡◌, ℕ, zero, suc, ◌+◌, ◌<◌, ◌≤◌, Bool, true, leb, List, [], ◌∷◌, ◌++◌, length, get_or, set, Some, None, Option, refl, ap, subst, arith, length-append}
 use Rattle.std.proofs.lemmas.Bool.{cond_both}
 use Rattle.schedule.specs.declared.Part.{Part}
-use Rattle.schedule.specs.Lists.{total, one_if}
+use Rattle.schedule.specs.Lists.{one_if}
 use Rattle.spa2.specs.declared.piece.Piece.{Piece}
 use Rattle.spa2.specs.declared.state.Processor.{Processor}
 use Rattle.spa2.specs.declared.state.Choice.{Choice}
@@ -11,7 +11,7 @@ use Rattle.spa2.specs.declared.state.seats.Seat.{Seat}
 use Rattle.spa2.specs.declared.state.Standing.TheVariants.{Full}
 use Rattle.spa2.specs.Loads.{load_of}
 use Rattle.spa2.specs.Choices.{is_open, least_loaded_seat}
-use Rattle.spa2.specs.Placing.{Tasks, State, number_of, processor_at, cut_at, with_cut, placed, whole, split, settled, fits_whole, after_choice, chosen, choice_of, front_of, others, settled_by, turn, opens, weight}
+use Rattle.spa2.specs.Placing.{Tasks, State, number_of, processor_at, cut_at, with_cut, placed, whole, split, settled, fits_whole, after_choice, chosen, choice_of, others, opens, weight}
 use Rattle.spa2.proofs.Scans.{idle, least_found}
 
 -- Whether a processor counts as open.

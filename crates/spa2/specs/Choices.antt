@@ -1,5 +1,5 @@
 -- Which processor a piece goes to.
-use Rattle.std.specs.Prelude.{◌≡◌, ℕ, zero, suc, ◌<◌, ◌≤◌, Bool, true, false, cond, List, [], ◌∷◌, length, Some, None, Option, nat_le, slice_index_or}
+use Rattle.std.specs.Prelude.{◌≡◌, ℕ, suc, ◌<◌, ◌≤◌, Bool, true, false, cond, List, [], ◌∷◌, length, Some, None, Option, nat_le, slice_index_or}
 use Rattle.spa2.specs.declared.state.Standing.{Standing}
 use Rattle.spa2.specs.declared.state.Standing.TheVariants.{Open, Reserved, Full}
 use Rattle.spa2.specs.declared.state.Processor.{Processor}

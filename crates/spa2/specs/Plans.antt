@@ -1,5 +1,5 @@
 -- The plan of a task set on m processors under a priority order and an arrival rule.
-use Rattle.std.specs.Prelude.{◌≡◌, ℕ, ◌≤◌, Bool, false, cond, ◌&&◌, List, [], ◌∷◌, Some, None, Ok, Err, Option, Result, nat_le}
+use Rattle.std.specs.Prelude.{◌≡◌, ℕ, ◌≤◌, Bool, false, cond, ◌&&◌, List, Some, None, Ok, Err, Option, Result, nat_le}
 use Rattle.schedule.specs.declared.Part.{Part}
 use Rattle.schedule.specs.Layout.{System}
 use Rattle.tasks.specs.Numbers.{as_numbered}

@@ -1,5 +1,5 @@
 -- The windows of placed parts.
-use Rattle.std.specs.Prelude.{ℕ, ◌-◌, Bool, true, false, cond, ◌||◌, List, [], ◌∷◌, ◌++◌, length, Ok, Err, Option, Result, ◌==◌}
+use Rattle.std.specs.Prelude.{ℕ, ◌-◌, Bool, false, cond, ◌||◌, List, [], ◌∷◌, ◌++◌, length, Ok, Err, Option, Result, ◌==◌}
 use Rattle.std.specs.Option.{unwrap_or}
 use Rattle.schedule.specs.declared.Part.{Part}
 use Rattle.schedule.specs.Layout.{span_of}

@@ -1,5 +1,5 @@
 -- The tasks of a set under a lawful priority order, and their ranks.
-use Rattle.std.proofs.Common.{◌≡◌, ℕ, zero, suc, ◌+◌, ◌<◌, ◌≤◌, Bool, true, false, T, ◌⊎◌, sym, refl, ap, subst, inl, inr, arith}
+use Rattle.std.proofs.Common.{◌≡◌, ℕ, zero, suc, ◌+◌, ◌<◌, ◌≤◌, Bool, true, false, T, sym, refl, ap, subst, inl, inr, arith}
 use Rattle.std.proofs.lemmas.Bool.{cases_Bool, cases_eq}
 use Rattle.schedule.proofs.facts.Lists.{from_T, to_T, total_lt, in_below, below_in, one_if_le}
 use Rattle.schedule.specs.Lists.{◌∈◌, total, up_from, below, one_if}

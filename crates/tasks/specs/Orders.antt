@@ -1,5 +1,5 @@
 -- What a priority order is told, and how its question reads it.
-use Rattle.std.specs.Prelude.{◌≡◌, ℕ, ◌<◌, ◌≤◌, Bool, ◌&&◌, ◌||◌, T, ◌⊎◌, List, ◌==◌, ◌≢◌, nat_lt, slice_index}
+use Rattle.std.specs.Prelude.{ℕ, ◌<◌, ◌≤◌, Bool, ◌&&◌, ◌||◌, T, ◌⊎◌, List, ◌==◌, ◌≢◌, nat_lt, slice_index}
 pub use Rattle.tasks.specs.Numbers.{as_numbered}
 use Rattle.tasks.specs.declared.order.TaskKey.{TaskKey}
 

@@ -1,4 +1,4 @@
-use Rattle.std.proofs.Common.{◌≡◌, ◌-◌, ◌≤◌, length}
+use Rattle.std.proofs.Common.{◌-◌, ◌≤◌}
 use Rattle.console.proofs.read_input.Given as goal
 
 abbrev pub invariant-loop-filled : goal.invariant-loop-filled

@@ -7,7 +7,6 @@ use Rattle.schedule.specs.Layout.{Segment, segments, span_of, work_of, System, L
 use Rattle.schedule.specs.TickRule.{State, job, started, runs_on, answer, opened, released, Call, release, tick, Answer, taken, ran, refused}
 use Rattle.schedule.specs.TickRule.{answers, leaves, after_call, Event, History, history}
 use Rattle.schedule.specs.Promise.{ticks_in, releases, time, bytes, runs_at, runs, life, until, finished_in, Released, Late, Ran, Kept}
-use Rattle.schedule.specs.Examples.{answered}
 use Rattle.schedule.proofs.facts.Lists.{total_same, total_none, total_at, total_exchange, in_below, Each, each_rest, each_both, each_from}
 use Rattle.schedule.proofs.facts.Running.{ready_here, ready_open, named_picked, answer_at}
 use Rattle.schedule.proofs.facts.Calls.{job_released, tick_either}

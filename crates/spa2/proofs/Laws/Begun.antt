@@ -1,21 +1,18 @@
 -- What every visit keeps, and that all visits leave a fair state.
-use Rattle.std.proofs.Common.{◌≡◌, ℕ, zero, suc, ◌+◌, ◌-◌, ◌*◌, ◌<◌, ◌≤◌, Bool, true, false, cond, ◌&&◌, ◌||◌, eqb, leb, ◌⊎◌, List, [], ◌∷◌, ◌++◌, length, get_or, set, replicate, sym, refl, ap, ◌∙◌, subst, inl, inr, arith, length-set}
-use Rattle.std.proofs.lemmas.List.{length-replicate, get_or-replicate}
-use Rattle.std.proofs.lemmas.Bool.{cond_both, and_parts, leb-true, or_cases, or_from, eq-eqb, ne_eqb, eqb-true, both_ways, cases_eq, cases_lt}
-use Rattle.schedule.specs.declared.Part.{Part}
+use Rattle.std.proofs.Common.{◌≡◌, ℕ, zero, suc, ◌+◌, ◌-◌, ◌*◌, ◌<◌, ◌≤◌, Bool, true, false, cond, ◌&&◌, eqb, leb, List, [], ◌∷◌, ◌++◌, length, get_or, sym, refl, ap, ◌∙◌, subst, inl, inr, arith, length-set}
+use Rattle.std.proofs.lemmas.Bool.{and_parts, leb-true, or_cases, or_from, eq-eqb, ne_eqb, eqb-true, both_ways, cases_eq}
 use Rattle.schedule.specs.Layout.{work_of}
 use Rattle.spa2.specs.declared.piece.Piece.{Piece}
 use Rattle.spa2.specs.declared.state.Processor.{Processor}
 use Rattle.spa2.specs.declared.state.Standing.{Standing}
-use Rattle.spa2.specs.declared.state.Standing.TheVariants.{Open, Reserved, Full}
+use Rattle.spa2.specs.declared.state.Standing.TheVariants.{Open, Reserved}
 use Rattle.spa2.specs.Laws.{is_beforehand, load_share, load_on}
 use Rattle.spa2.specs.Loads.{heavy}
-use Rattle.spa2.specs.Placing.{Tasks, State, load_at, followers, threshold, started, placed, free, goes_beforehand, beforehand, pieced, visited, visited_from, opens, weight}
-use Rattle.spa2.proofs.Keeping.{visits_keep}
+use Rattle.spa2.specs.Placing.{Tasks, State, load_at, followers, threshold, started, placed, free, goes_beforehand, beforehand, pieced, visited, visited_from, opens}
 use Rattle.spa2.proofs.Laws.Cuts.{Closing, closing_push, closing_pieces}
 use Rattle.spa2.proofs.Laws.Each.{Each, each_push, each_map, has_piece, total_push}
-use Rattle.spa2.proofs.Laws.Fair.{Sane, KnownPart, KnownPiece, Distinct, Fair}
-use Rattle.spa2.proofs.Laws.Seats.{standing_at, standing_same, standing_other, Absent, Seated, seated_other, above_absent, open_full}
+use Rattle.spa2.proofs.Laws.Fair.{Sane, KnownPart, KnownPiece, Distinct}
+use Rattle.spa2.proofs.Laws.Seats.{standing_at, standing_same, standing_other, Seated, seated_other, above_absent, open_full}
 use Rattle.spa2.proofs.Laws.Sums.{piece_work, work_push, share_first}
 use Rattle.spa2.proofs.Scans.{idle}
 use Rattle.spa2.proofs.Visits.{Visiting, visited_visiting}

@@ -1,11 +1,10 @@
 -- A part whose task goes on elsewhere was the last on its processor, which is full.
-use Rattle.std.proofs.Common.{◌≡◌, ℕ, zero, suc, ◌+◌, ◌<◌, ◌≤◌, Bool, true, false, ◌||◌, eqb, ◌⊎◌, List, [], ◌∷◌, ◌++◌, length, get_or, set, sym, refl, ap, ◌∙◌, subst, inl, inr, arith}
-use Rattle.std.proofs.lemmas.Bool.{or_cases, or_left, or_right, or_from, eqb-true, ne_eqb, cases_eq}
+use Rattle.std.proofs.Common.{◌≡◌, ℕ, ◌<◌, Bool, true, false, ◌||◌, eqb, List, [], ◌∷◌, ◌++◌, length, set, sym, refl, ap, ◌∙◌, subst, inl, inr}
+use Rattle.std.proofs.lemmas.Bool.{or_cases, or_left, or_right, or_from, eqb-true, ne_eqb}
 use Rattle.schedule.specs.declared.Part.{Part}
 use Rattle.spa2.specs.declared.piece.Piece.{Piece}
 use Rattle.spa2.specs.declared.state.Processor.{Processor}
-use Rattle.spa2.specs.declared.state.Standing.{Standing}
-use Rattle.spa2.specs.declared.state.Standing.TheVariants.{Open, Reserved, Full}
+use Rattle.spa2.specs.declared.state.Standing.TheVariants.{Full}
 use Rattle.spa2.specs.Laws.{has_on}
 use Rattle.spa2.specs.Windows.{has_part}
 use Rattle.spa2.proofs.Laws.Each.{Each, has_piece, has_part_push, has_on_push}

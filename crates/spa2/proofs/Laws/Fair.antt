@@ -1,6 +1,6 @@
 -- What every turn keeps.
-use Rattle.std.proofs.Common.{◌≡◌, ℕ, zero, suc, ◌+◌, ◌-◌, ◌<◌, ◌≤◌, Bool, true, false, cond, ◌||◌, eqb, leb, ◌⊎◌, List, [], ◌∷◌, ◌++◌, length, get_or, set, Some, None, sym, refl, ap, ◌∙◌, subst, inl, inr, arith, length-set}
-use Rattle.std.proofs.lemmas.Bool.{cond_both, cases_Bool, leb-true, leb-false, or_cases, or_left, or_right, eq-eqb, both_ways}
+use Rattle.std.proofs.Common.{◌≡◌, ℕ, ◌+◌, ◌-◌, ◌<◌, ◌≤◌, Bool, true, false, cond, eqb, leb, List, [], ◌∷◌, ◌++◌, length, set, Some, sym, refl, ◌∙◌, subst, arith, length-set}
+use Rattle.std.proofs.lemmas.Bool.{cond_both, leb-true, leb-false, or_left, or_right, eq-eqb, both_ways}
 use Rattle.schedule.specs.declared.Part.{Part}
 use Rattle.schedule.specs.Layout.{work_of}
 use Rattle.spa2.specs.declared.piece.Piece.{Piece}
@@ -10,13 +10,12 @@ use Rattle.spa2.specs.declared.state.Choice.TheVariants.{Normal, Spare}
 use Rattle.spa2.specs.declared.state.Standing.{Standing}
 use Rattle.spa2.specs.declared.state.Standing.TheVariants.{Open, Reserved, Full}
 use Rattle.spa2.specs.Choices.{is_open}
-use Rattle.spa2.specs.Laws.{load_on}
-use Rattle.spa2.specs.Loads.{load_of, cut_of}
-use Rattle.spa2.specs.Placing.{Tasks, State, threshold, placed, with_pieces, with_reserve, after_choice, reserve_after, returned, others, number_of, processor_at, cut_at, with_cut, chosen, fits_whole, whole, split, settled, weight}
-use Rattle.spa2.proofs.Filling.{turned, turned_lighter}
-use Rattle.spa2.proofs.Laws.Cuts.{Closing, Fewer, closing_kept, closing_push}
+use Rattle.spa2.specs.Loads.{load_of}
+use Rattle.spa2.specs.Placing.{Tasks, State, threshold, placed, with_pieces, after_choice, reserve_after, returned, others, number_of, processor_at, cut_at, chosen, fits_whole, whole, split}
+use Rattle.spa2.proofs.Filling.{turned}
+use Rattle.spa2.proofs.Laws.Cuts.{Closing, closing_kept, closing_push}
 use Rattle.spa2.proofs.Laws.Each.{Each, each_push, each_all, has_piece}
-use Rattle.spa2.proofs.Laws.Seats.{standing_at, Absent, Seated, seated_other, seated_same, open_absent, open_full, reserved_full}
+use Rattle.spa2.proofs.Laws.Seats.{standing_at, Seated, seated_other, seated_same, open_absent, open_full, reserved_full}
 use Rattle.spa2.proofs.Laws.Sums.{piece_work, work_push, work_cut, split_share, Loaded, loaded_push, loaded_kept, load_none}
 use Rattle.spa2.proofs.Rounding.{cut_fits, cut_leaves, load_some}
 use Rattle.spa2.proofs.Weights.{grown, filled, chosen_normal, chosen_spare}

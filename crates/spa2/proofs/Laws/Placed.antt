@@ -1,23 +1,20 @@
 -- What holds of the parts that are placed.
-use Rattle.std.proofs.Common.{◌≡◌, ℕ, zero, suc, ◌+◌, ◌-◌, ◌<◌, ◌≤◌, Bool, true, false, cond, ◌||◌, eqb, ◌⊎◌, List, [], ◌∷◌, ◌++◌, length, get_or, replicate, Some, Ok, sym, refl, ap, ◌∙◌, subst, inl, inr, arith}
+use Rattle.std.proofs.Common.{◌≡◌, ℕ, zero, suc, ◌+◌, ◌<◌, ◌≤◌, Bool, List, [], ◌∷◌, length, replicate, Some, Ok, sym, refl, ap, subst, inl, inr, arith}
 use Rattle.std.proofs.lemmas.List.{length-replicate, get_or-replicate}
 use Rattle.std.proofs.lemmas.Bool.{cases_lt}
 use Rattle.schedule.specs.declared.Part.{Part}
 use Rattle.schedule.specs.Layout.{work_of}
-use Rattle.schedule.specs.Lists.{total}
 use Rattle.spa2.specs.declared.piece.Piece.{Piece}
 use Rattle.spa2.specs.declared.state.Choice.{Choice}
 use Rattle.spa2.specs.declared.state.Processor.{Processor}
-use Rattle.spa2.specs.declared.state.Standing.TheVariants.{Open}
-use Rattle.spa2.specs.Laws.{is_beforehand, load_share, load_on}
-use Rattle.spa2.specs.Placing.{Tasks, State, threshold, started, visited_from, turns, parts_placed, opens, weight, chosen, with_pieces}
+use Rattle.spa2.specs.Laws.{is_beforehand, load_on}
+use Rattle.spa2.specs.Placing.{Tasks, State, threshold, started, visited_from, parts_placed, opens, weight, chosen, with_pieces}
 use Rattle.spa2.proofs.Filling.{turned, turned_lighter}
 use Rattle.spa2.proofs.Keeping.{Ends, turns_keep, visits_keep}
 use Rattle.spa2.proofs.Laws.Begun.{Begun, begun_visit}
 use Rattle.spa2.proofs.Laws.Cuts.{Closing}
 use Rattle.spa2.proofs.Laws.Each.{Each}
 use Rattle.spa2.proofs.Laws.Fair.{Sane, KnownPart, Fair, chosen_fit, fair_turned}
-use Rattle.spa2.proofs.Laws.Seats.{standing_at}
 use Rattle.spa2.proofs.Laws.Sums.{piece_work, share_elsewhere, within_most}
 use Rattle.spa2.proofs.Scans.{idle}
 

@@ -1,20 +1,18 @@
 -- What does not look at windows is the same before and after they are given.
-use Rattle.std.proofs.Common.{◌≡◌, ℕ, zero, suc, ◌+◌, ◌<◌, ◌≤◌, Bool, true, false, cond, ◌||◌, eqb, List, [], ◌∷◌, ◌++◌, map, length, get_or, Ok, Err, Option, sym, refl, ap, ◌∙◌, subst, inl, inr, arith}
-use Rattle.std.proofs.lemmas.Bool.{cases_Bool, or_left, or_right, or_parts, eq-eqb, both_ways}
+use Rattle.std.proofs.Common.{◌≡◌, ℕ, zero, suc, ◌<◌, Bool, true, false, cond, ◌||◌, eqb, List, [], ◌∷◌, ◌++◌, map, length, Ok, Err, Option, sym, refl, ap, ◌∙◌, inl, inr, arith}
+use Rattle.std.proofs.lemmas.Bool.{cases_Bool, or_left, or_right, eq-eqb, both_ways}
 use Rattle.schedule.specs.declared.Part.{Part}
 use Rattle.schedule.specs.Lists.{total}
 use Rattle.plan.specs.Checks.{part_at}
 use Rattle.parts.specs.declared.fault.PlanFault.TheVariants.{Squeezed}
 use Rattle.spa2.specs.declared.piece.Piece.{Piece}
 use Rattle.spa2.specs.declared.state.Processor.{Processor}
-use Rattle.spa2.specs.declared.state.Standing.TheVariants.{Full}
 use Rattle.spa2.specs.Laws.{has_on}
 use Rattle.spa2.specs.Placing.{Tasks}
 use Rattle.spa2.specs.Windows.{has_part, with_own_window, window_of, windowed_from}
 use Rattle.spa2.proofs.Keeping.{ok_same, err_never}
 use Rattle.spa2.proofs.Laws.Cuts.{Closing, goes_on}
 use Rattle.spa2.proofs.Laws.Each.{Each, has_piece}
-use Rattle.spa2.proofs.Laws.Seats.{standing_at}
 
 -- A part without its window.
 abbrev pub bare : Part → Part

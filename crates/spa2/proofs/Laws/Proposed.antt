@@ -1,11 +1,11 @@
 -- Every proposed plan is lawful.
-use Rattle.std.proofs.Common.{◌≡◌, ℕ, zero, suc, ◌+◌, ◌-◌, ◌<◌, ◌≤◌, Bool, true, false, cond, not, ◌&&◌, ◌||◌, eqb, ltb, leb, ◌⊎◌, List, [], ◌∷◌, ◌++◌, map, length, get_or, is_some, IfOk, Some, None, Ok, Err, Option, Result, unwrap_or, sym, refl, ap, ◌∙◌, subst, inl, inr, arith}
+use Rattle.std.proofs.Common.{◌≡◌, ℕ, ◌+◌, ◌<◌, ◌≤◌, Bool, true, false, cond, not, ◌&&◌, ◌||◌, eqb, ltb, leb, List, [], ◌∷◌, map, length, is_some, IfOk, None, Ok, Err, Option, Result, unwrap_or, sym, refl, ap, ◌∙◌, subst, inl, inr, arith}
 use Rattle.std.proofs.lemmas.Bool.{cases_eq, and_left, and_right, or_from, lt-leb, ne_eqb, eq-eqb, le-ltb}
 use Rattle.std.proofs.lemmas.Bool.Decides.{nat_tests}
 use Rattle.std.specs.Option.{option_or, option_map}
 use Rattle.std.specs.Bool.{then_some}
 use Rattle.schedule.specs.declared.Part.{Part}
-use Rattle.schedule.specs.Layout.{System, span_of, work_of}
+use Rattle.schedule.specs.Layout.{span_of, work_of}
 use Rattle.tasks.proofs.Searches.{first_none}
 use Rattle.tasks.proofs.Sets.{period_scaled, cost_scaled}
 use Rattle.tasks.specs.Numbers.{as_numbered}
@@ -19,15 +19,15 @@ use Rattle.plan.specs.Systems.{system}
 use Rattle.parts.specs.declared.lists.Proposal.{Proposal}
 use Rattle.parts.specs.declared.fault.PlanFault.{PlanFault}
 use Rattle.spa2.specs.Laws.{Lawful, is_beforehand, load_share, load_on}
-use Rattle.spa2.specs.Placing.{Tasks, tasks_of, threshold, parts_placed}
-use Rattle.spa2.specs.Windows.{has_part, with_own_window, windowed_from, windowed}
+use Rattle.spa2.specs.Placing.{tasks_of, threshold, parts_placed}
+use Rattle.spa2.specs.Windows.{has_part, windowed}
 use Rattle.spa2.specs.Plans.{answered}
 use Rattle.spa2.proofs.Keeping.{ok_same}
 use Rattle.spa2.proofs.Laws.Cuts.{Closing}
 use Rattle.spa2.proofs.Laws.Each.{Each, each_at}
 use Rattle.spa2.proofs.Laws.Fair.{Sane, KnownPart}
 use Rattle.spa2.proofs.Laws.Placed.{PlacedWell, placed_well}
-use Rattle.spa2.proofs.Laws.Plain.{bare, total_bare, has_part_bare, length_bare, each_bare, closing_bare, bare_closing, windowed_bare, has_part_at, closing_twins, closing_at}
+use Rattle.spa2.proofs.Laws.Plain.{bare, total_bare, length_bare, each_bare, closing_bare, bare_closing, windowed_bare, closing_twins, closing_at}
 use Rattle.spa2.proofs.Laws.Spans.{Fit, Spanned, windowed_well}
 
 pub sane_set : (s : TaskSet) → Sane (tasks_of s)

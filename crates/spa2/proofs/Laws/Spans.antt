@@ -1,18 +1,16 @@
 -- What holds of the windows.
-use Rattle.std.proofs.Common.{◌≡◌, ℕ, zero, suc, ◌+◌, ◌-◌, ◌<◌, ◌≤◌, Bool, true, false, cond, ◌||◌, eqb, leb, ◌⊎◌, List, [], ◌∷◌, ◌++◌, map, length, get_or, Some, None, Ok, Err, Option, Result, unwrap_or, sym, refl, ap, ◌∙◌, subst, inl, inr, arith}
-use Rattle.std.proofs.lemmas.Bool.{cond_both, cases_Bool, or_cases, or_parts, eqb-true, eqb-false, eq-eqb, ne_eqb, cases_eq}
+use Rattle.std.proofs.Common.{◌≡◌, ℕ, zero, suc, ◌+◌, ◌-◌, ◌≤◌, Bool, true, false, cond, ◌||◌, eqb, leb, List, [], ◌∷◌, ◌++◌, length, Some, Ok, Err, Option, unwrap_or, sym, ap, ◌∙◌, subst, inl, inr, arith}
+use Rattle.std.proofs.lemmas.Bool.{cond_both, cases_Bool, or_cases, eqb-true, eqb-false, eq-eqb, ne_eqb, cases_eq}
 use Rattle.schedule.specs.declared.Part.{Part}
-use Rattle.schedule.specs.Lists.{total}
 use Rattle.schedule.specs.Layout.{System, span_of, demand}
 use Rattle.tasks.specs.Searches.{first_from}
 use Rattle.plan.specs.Responses.{response_within}
-use Rattle.parts.specs.declared.fault.PlanFault.{PlanFault}
 use Rattle.parts.specs.declared.fault.PlanFault.TheVariants.{Squeezed}
 use Rattle.spa2.specs.Placing.{Tasks}
-use Rattle.spa2.specs.Windows.{has_part, with_own_window, window_of, windowed_from, windowed}
+use Rattle.spa2.specs.Windows.{has_part, with_own_window, window_of, windowed_from}
 use Rattle.spa2.proofs.Keeping.{ok_same, err_never}
 use Rattle.spa2.proofs.Laws.Each.{Each, each_push, total_push, has_part_push}
-use Rattle.spa2.proofs.Windowing.{window_follows, window_last}
+use Rattle.spa2.proofs.Windowing.{window_last}
 
 -- A search of n numbers after a finds none above a + n.
 search_most : (test : ℕ → Bool) (a n : ℕ) → unwrap_or (first_from test (suc a) n) 0 ≤ a + n

@@ -1,13 +1,9 @@
-use Rattle.std.proofs.Common.{◌≡◌, ℕ, ◌<◌, Bool, true, false, ltb, List, map, length, Some, None, Option, sym, refl, ap, ◌∙◌, subst, arith}
-use Rattle.std.specs.Option.{option_or, option_map}
+use Rattle.std.proofs.Common.{◌≡◌, ℕ, Bool, map, length, Some, None, Option, sym, refl, ap, ◌∙◌, subst, arith}
 use Rattle.std.specs.Bool.{then_some}
 use Rattle.std.proofs.lemmas.Bool.{lt-ltb}
-use Rattle.schedule.specs.Layout.{System}
 use Rattle.schedule.specs.Promise.{KeptThroughout}
-use Rattle.schedule.specs.Sameness.{Same}
-use Rattle.schedule.specs.TickRule.{History, history, started, state_after}
+use Rattle.schedule.specs.TickRule.{history, started}
 use Rattle.tasks.specs.Arrivals.{SameCurves}
-use Rattle.tasks.specs.declared.order.TaskKey.{TaskKey}
 use Rattle.plan.specs.Answers.{check_fault, CanBeLate}
 use Rattle.parts.specs.Parts.{plan_of, parts_of}
 use Rattle.plan.specs.Systems.{system}
@@ -16,10 +12,9 @@ use Rattle.parts.specs.declared.lists.PartList.{PartList}
 use Rattle.machine.specs.declared.fault.MachineFault.{MachineFault}
 use Rattle.machine.specs.declared.fault.MachineFault.TheVariants.{Plan, Cramped}
 use Rattle.machine.specs.declared.layout.Layout.{Layout}
-use Rattle.driving.specs.Driving.{Promised, Driven, drive_fault, AsLate, recorded, call_of}
+use Rattle.driving.specs.Driving.{drive_fault, AsLate, recorded, call_of}
 use Rattle.machine.specs.Layouts.{ByOrder}
 use Rattle.machine.specs.Meaning.{state_of}
-use Rattle.driving.proofs.CallLists.{sys_of}
 use Rattle.driving.proofs.Promising.{found_by, nothing_by, nothing_refused, drive_exact, keeps, accepted_by, system_alike, history_from_start, state_from_start}
 use Rattle.tasks.specs.Orders.{LawfulOrder}
 use Rattle.driving.proofs.promise.drive.Given as given

@@ -1,9 +1,8 @@
 use Rattle.std.proofs.Common.{◌≡◌, ℕ, suc, ◌<◌, Bool, ◌≢◌, List, [], ◌∷◌, ◌++◌, map, length, get_or, take, drop, set, sym, refl, ap, ◌∙◌, subst, inl, inr, add-one, arith, get_or-set_other, get_or-set_same}
 use Rattle.std.proofs.lemmas.List.{take_more, take_all, length-take-le}
-use Rattle.schedule.specs.TickRule.{History, Event, history, state_after}
-use Rattle.schedule.specs.TickRule as rules
+use Rattle.schedule.specs.TickRule.{History, history, state_after}
 use Rattle.schedule.specs.Sameness.{Same}
-use Rattle.schedule.specs.TickRule.{State, Answer, answers}
+use Rattle.schedule.specs.TickRule.{Answer, answers}
 use Rattle.schedule.proofs.Histories.{same_refl}
 use Rattle.std.proofs.lemmas.Bool.{cases_eq}
 use Rattle.driving.specs.declared.Outcome.TheVariants.{Taken}
@@ -13,7 +12,7 @@ use Rattle.driving.specs.declared.Call.TheVariants.{Release}
 use Rattle.machine.specs.declared.layout.Layout.{Layout}
 use Rattle.driving.specs.Driving.{call_of, outcome_meant, recorded, Own}
 use Rattle.machine.specs.Layouts.{ByOrder}
-use Rattle.machine.specs.Meaning.{state_of, GoesOn}
+use Rattle.machine.specs.Meaning.{state_of}
 use Rattle.driving.proofs.CallLists.{sys_of, goes_on_refl, goes_on_trans, one_more, recorded_more, rest_more, history_more}
 use Rattle.driving.proofs.runs.run.Goals as goal
 

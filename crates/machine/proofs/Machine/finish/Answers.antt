@@ -1,8 +1,7 @@
-use Rattle.std.proofs.Common.{◌≡◌, ℕ, ◌<◌, ◌≤◌, true, false, get_or, sym, refl, ap, ◌∙◌, arith}
+use Rattle.std.proofs.Common.{◌<◌, ◌≤◌, refl, arith}
 use Rattle.std.proofs.lemmas.Bool.{true≢false}
 use Rattle.tasks.specs.Sets.{count_of}
 use Rattle.parts.specs.Parts.{parts_of}
-use Rattle.machine.specs.declared.jobs.Job.TheVariants.{Closed}
 use Rattle.plan.proofs.Verdicts.{LawfulCurves}
 use Rattle.machine.specs.Meaning.{GoesOn}
 use Rattle.machine.proofs.Living.{life_goes_on}

@@ -1,4 +1,4 @@
-use Rattle.std.proofs.Common.{◌≡◌, ℕ, ap, ◌∙◌}
+use Rattle.std.proofs.Common.{ap, ◌∙◌}
 use lib.Count.{ones}
 use Rattle.machine.proofs.Telling.{word_counted}
 use Rattle.machine.proofs.Machine.ready_count.Goals as goal

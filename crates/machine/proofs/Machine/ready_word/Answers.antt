@@ -1,4 +1,4 @@
-use Rattle.std.proofs.Common.{◌≡◌, ℕ, IfOk, Ok, Err, Result}
+use Rattle.std.proofs.Common.{ℕ, IfOk, Ok, Err, Result}
 use Rattle.machine.specs.declared.fault.MachineFault.{MachineFault}
 use Rattle.machine.proofs.Telling.{word_tells}
 use Rattle.machine.proofs.Machine.ready_word.Goals as goal

@@ -3,7 +3,6 @@ use Rattle.std.proofs.lemmas.Bool.{eqb-true, eqb-false, ne_eqb, true≢false}
 use Rattle.tasks.specs.Arrivals.{Admitted}
 use Rattle.tasks.specs.Numbers.{as_numbered}
 use Rattle.tasks.specs.Sets.{count_of}
-use Rattle.parts.specs.Parts.{parts_of}
 use Rattle.plan.proofs.Verdicts.{LawfulCurves}
 use Rattle.machine.specs.Meaning.{GoesOn}
 use Rattle.machine.proofs.Living.{life_goes_on}

@@ -1,4 +1,4 @@
-use Rattle.std.proofs.Common.{◌≡◌, ℕ, ◌<◌, ◌≤◌, sym, refl, ap, ◌∙◌, arith}
+use Rattle.std.proofs.Common.{◌<◌, sym, refl, ap, ◌∙◌, arith}
 use Rattle.schedule.specs.Sameness.{Same}
 use Rattle.schedule.specs.TickRule.{started}
 use Rattle.tasks.specs.Numbers.{as_numbered}

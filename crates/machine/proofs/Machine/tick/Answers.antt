@@ -1,7 +1,6 @@
-use Rattle.std.proofs.Common.{◌≡◌, ℕ, ◌+◌, ◌^◌, ◌<◌, ◌≤◌, true, false, List, length, take, sym, refl, ap, ◌∙◌, subst, arith}
+use Rattle.std.proofs.Common.{◌≡◌, ℕ, ◌+◌, List, length, take, refl, subst, arith}
 use Rattle.std.proofs.lemmas.Bool.{true≢false}
 use Rattle.schedule.specs.TickRule.{tick, ran}
-use Rattle.parts.specs.Parts.{parts_of}
 use Rattle.plan.proofs.Verdicts.{LawfulCurves}
 use Rattle.machine.specs.Layouts.{ByOrder}
 use Rattle.machine.specs.Meaning.{GoesOn, Obeyed, system_of, state_of, table_state}

@@ -1,13 +1,12 @@
-use Rattle.std.proofs.Common.{◌≡◌, ℕ, ◌+◌, ◌*◌, ◌%◌, ◌^◌, ◌<◌, ◌≤◌, true, eqb, List, length, get_or, set, sym, refl, ap, ◌∙◌, subst, arith}
+use Rattle.std.proofs.Common.{◌≡◌, ℕ, ◌+◌, ◌^◌, ◌<◌, true, eqb, length, get_or, set, sym, refl, ap, ◌∙◌, subst, arith}
 use lib.Bits.{bit_or}
 use Rattle.std.proofs.lemmas.Nat.{one_shl}
 use Rattle.std.proofs.lemmas.List.{length-set}
 use Rattle.schedule.specs.TickRule.{ready_on}
 use Rattle.tasks.specs.Sets.{count_of}
-use Rattle.plan.specs.Checks.{part_at}
 use Rattle.parts.specs.Parts.{parts_of}
 use Rattle.machine.specs.declared.jobs.Job.{Job}
-use Rattle.machine.specs.declared.jobs.Job.TheVariants.{Closed, Ready}
+use Rattle.machine.specs.declared.jobs.Job.TheVariants.{Closed}
 use Rattle.machine.specs.Jobs.{meant, fits}
 use Rattle.machine.specs.Layouts.{word_up_to}
 use Rattle.machine.specs.Placing.{unplaced}

@@ -1,7 +1,6 @@
-use Rattle.std.proofs.Common.{◌≡◌, ℕ, List, ◌++◌, length, take, drop, Some, None, Ok, Err, Option, Result, unwrap_or, sym, refl, ap, ◌∙◌, subst, arith}
+use Rattle.std.proofs.Common.{◌≡◌, ℕ, List, ◌++◌, length, take, drop, Some, Ok, Err, Option, Result, unwrap_or, sym, refl, ap, ◌∙◌, subst, arith}
 use Rattle.std.proofs.lemmas.Result.{err_from_is_err_and}
 use Rattle.schedule.specs.declared.Part.{Part}
-use Rattle.tasks.specs.declared.order.TaskKey.{TaskKey}
 use Rattle.parts.specs.declared.fault.PlanFault.{PlanFault}
 use Rattle.plan.specs.Answers.{Judged, refused_or, check_fault, check_answer, ExactlyLate}
 use Rattle.plan.specs.Checks.{response_times}

@@ -1,4 +1,4 @@
-use Rattle.std.proofs.Common.{◌≡◌, ℕ, ltb, ap, ◌∙◌, arith}
+use Rattle.std.proofs.Common.{◌≡◌, ltb, ap, ◌∙◌, arith}
 use Rattle.schedule.specs.Layout.{span_of}
 use Rattle.tasks.specs.Numbers.{as_numbered, as_long}
 use Rattle.parts.specs.Parts.{parts_of}

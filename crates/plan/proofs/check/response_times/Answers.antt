@@ -1,4 +1,4 @@
-use Rattle.std.proofs.Common.{◌≡◌, ℕ, ◌<◌, Bool, true, false, not, ◌≢◌, length, get_or, is_some, Option, unwrap_or, sym, refl, ap, ◌∙◌, arith, length-set, get_or-set_other, get_or-set_same, below_more}
+use Rattle.std.proofs.Common.{ℕ, ◌<◌, not, ◌≢◌, length, is_some, Option, unwrap_or, sym, ap, ◌∙◌, arith, length-set, get_or-set_other, get_or-set_same, below_more}
 use Rattle.tasks.proofs.Searches.{first_found, first_none}
 use Rattle.plan.specs.Checks.{late}
 use Rattle.parts.specs.Parts.{parts_of}

@@ -1,4 +1,4 @@
-use Rattle.std.proofs.Common.{◌≡◌, ℕ, List, ap, ◌∙◌, subst, arith}
+use Rattle.std.proofs.Common.{◌≡◌, List, ap, ◌∙◌, subst, arith}
 use Rattle.schedule.specs.declared.Part.{Part}
 use Rattle.tasks.specs.Numbers.{as_long}
 use Rattle.plan.specs.Checks.{part_at}

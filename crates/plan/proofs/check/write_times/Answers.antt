@@ -1,4 +1,4 @@
-use Rattle.std.proofs.Common.{◌≡◌, ℕ, List, get_or, set, ap, ◌∙◌, add-one, arith}
+use Rattle.std.proofs.Common.{ℕ, List, get_or, set, ap, ◌∙◌, add-one, arith}
 use Rattle.plan.proofs.Writing.{copied_more}
 use Rattle.plan.proofs.check.write_times.Goals as goal
 

@@ -1,4 +1,4 @@
-use Rattle.std.proofs.Common.{ℕ, Bool, is_some, Option, sym, ap, ◌∙◌, arith}
+use Rattle.std.proofs.Common.{ℕ, is_some, Option, sym, ap, ◌∙◌, arith}
 use Rattle.tasks.proofs.Searches.{first_found, first_none}
 use Rattle.plan.specs.Checks.{same_place, part_at}
 use Rattle.plan.proofs.numbers.is_twin.Goals as goal

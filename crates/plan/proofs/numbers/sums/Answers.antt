@@ -1,8 +1,7 @@
-use Rattle.std.proofs.Common.{◌≡◌, ℕ, List, length, take, ap, ◌∙◌, arith}
+use Rattle.std.proofs.Common.{List, ap, ◌∙◌, arith}
 use Rattle.std.proofs.lemmas.List.{take_all}
 use Rattle.schedule.specs.Layout.{span_of, work_of}
 use Rattle.schedule.specs.declared.Part.{Part}
-use Rattle.plan.specs.Checks.{part_at}
 use Rattle.plan.proofs.Totals.{task_more_in, task_more_out}
 use Rattle.plan.proofs.numbers.sums.Goals as goal
 use Rattle.plan.proofs.numbers.sums.Goals.{then-part-task, else-part-task}

@@ -1,4 +1,4 @@
-use Rattle.std.proofs.Common.{◌≡◌, ℕ, ◌*◌, ◌<◌, ◌≤◌, min, Bool, true, sym, ap, ◌∙◌, arith}
+use Rattle.std.proofs.Common.{◌≡◌, ℕ, ◌*◌, ◌≤◌, true, sym, ap, ◌∙◌, arith}
 use Rattle.tasks.specs.Numbers.{as_numbered}
 use Rattle.tasks.specs.Arrivals.{as_long}
 use Rattle.tasks.specs.Orders.{as_asked}

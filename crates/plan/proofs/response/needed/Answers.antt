@@ -1,4 +1,4 @@
-use Rattle.std.proofs.Common.{◌≡◌, ℕ, List, length, ap, ◌∙◌, arith}
+use Rattle.std.proofs.Common.{ℕ, ap, ◌∙◌, arith}
 use Rattle.std.proofs.lemmas.List.{take_all}
 use Rattle.schedule.specs.declared.Part.{Part}
 use Rattle.schedule.specs.Lists.{total}
@@ -6,7 +6,6 @@ use Rattle.parts.specs.Parts.{parts_of}
 use Rattle.plan.specs.Responses.{share}
 use Rattle.plan.specs.Systems.{system}
 use Rattle.plan.proofs.Totals.{total_more}
-use Rattle.plan.proofs.response.needed.Given as given
 use Rattle.plan.proofs.response.needed.Goals as goal
 
 pub loop-other-preserved : goal.loop-other-preserved

@@ -1,10 +1,9 @@
-use Rattle.std.proofs.Common.{◌≡◌, ℕ, ◌<◌, ◌≤◌, Some, None, Option, sym, ap, ◌∙◌, subst, arith}
+use Rattle.std.proofs.Common.{ℕ, sym, arith}
 use Rattle.schedule.specs.Curves.{Curve}
 use Rattle.schedule.specs.Layout.{System}
 use Rattle.tasks.specs.Arrivals.{as_long}
 use Rattle.tasks.specs.Numbers.{as_numbered}
 use Rattle.parts.specs.Parts.{parts_of}
-use Rattle.plan.specs.Responses.{response_within, Least}
 use Rattle.plan.specs.Systems.{system}
 use Rattle.plan.proofs.Demand.{short_on, found, not_found}
 use Rattle.plan.proofs.response.response_time.Given as given

@@ -1,4 +1,4 @@
-use Rattle.std.proofs.Common.{ℕ, ◌*◌, ◌/◌, ◌^◌, ◌<◌, sym, ap, subst, arith, w32, Fits}
+use Rattle.std.proofs.Common.{ℕ, ◌*◌, ◌/◌, sym, subst, arith, w32, Fits}
 use Rattle.spa2.proofs.Rounding.{cut_bounded}
 use Rattle.spa2.proofs.load.cut_cost.Goals as goal
 

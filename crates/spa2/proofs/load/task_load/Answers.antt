@@ -1,4 +1,4 @@
-use Rattle.std.proofs.Common.{◌≡◌, ℕ, ◌≤◌, sym, ap, ◌∙◌, subst, inl, inr}
+use Rattle.std.proofs.Common.{◌≡◌, ℕ, ◌≤◌, sym, ap, ◌∙◌, subst}
 use Rattle.spa2.proofs.Steps.{load_at_whole}
 use Rattle.tasks.specs.Sets.{cost_of}
 use Rattle.spa2.specs.Loads.{load_of}

@@ -3,7 +3,7 @@ use Rattle.std.proofs.lemmas.Result.{err_from_is_err_and}
 use Rattle.schedule.specs.declared.Part.{Part}
 use Rattle.parts.specs.declared.fault.PlanFault.{PlanFault}
 use Rattle.spa2.specs.declared.state.Processor.{Processor}
-use Rattle.spa2.specs.Placing.{State, tasks_of, started}
+use Rattle.spa2.specs.Placing.{tasks_of, started}
 use Rattle.spa2.specs.Seen.{seen}
 use Rattle.spa2.proofs.Scans.{idle}
 use Rattle.spa2.proofs.Starts.{lent_processors, placed_answer}

@@ -1,11 +1,9 @@
-use Rattle.std.proofs.Common.{◌≡◌, ℕ, ◌≤◌, List, length, Ok, Err, Result, sym, ap, ◌∙◌, subst, arith}
-use Rattle.schedule.specs.declared.Part.{Part}
+use Rattle.std.proofs.Common.{◌≡◌, ℕ, ◌≤◌, length, Ok, sym, ◌∙◌, subst, arith}
 use Rattle.tasks.specs.Numbers.{as_numbered}
 use Rattle.tasks.specs.Orders.{as_asked}
 use Rattle.tasks.specs.Sets.{key_of}
 use Rattle.parts.specs.Parts.{parts_of}
 use Rattle.plan.specs.Responses.{response_within}
-use Rattle.parts.specs.declared.fault.PlanFault.{PlanFault}
 use Rattle.spa2.specs.Placing.{tasks_of, parts_placed}
 use Rattle.spa2.specs.Plans.{system_of}
 use Rattle.spa2.proofs.Laws.Proposed.{lawful_plan, made_lawful}

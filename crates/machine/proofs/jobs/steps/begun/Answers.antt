@@ -1,4 +1,4 @@
-use Rattle.std.proofs.Common.{◌≡◌, ℕ, true, Some, None, Option, sym, refl, ap, ◌∙◌, subst, arith}
+use Rattle.std.proofs.Common.{◌≡◌, ℕ, true, Option, sym, ap, ◌∙◌, subst, arith}
 use Rattle.schedule.specs.TickRule.{hand_over, open_at}
 use Rattle.parts.specs.Parts.{parts_of}
 use Rattle.machine.specs.Jobs.{in_time}

@@ -1,6 +1,5 @@
-use Rattle.std.proofs.Common.{◌≡◌, ℕ, eqb, get_or, sym, refl, ap, ◌∙◌}
+use Rattle.std.proofs.Common.{ℕ, eqb, get_or, sym, ap, ◌∙◌}
 use Rattle.parts.specs.Parts.{parts_of}
-use Rattle.machine.specs.declared.jobs.Job.{Job}
 use Rattle.machine.specs.Jobs.{ran_by}
 use Rattle.machine.proofs.Ageing.{on_processor, held}
 use Rattle.machine.proofs.jobs.steps.has_run.Goals as goal

@@ -1,8 +1,7 @@
-use Rattle.std.proofs.Common.{◌≡◌, ℕ, suc, ◌+◌, ◌-◌, ◌<◌, ◌≤◌, Bool, true, false, not, ◌⊎◌, List, length, get_or, Some, None, Option, sym, refl, ap, ◌∙◌, subst, inl, inr, arith}
+use Rattle.std.proofs.Common.{◌≡◌, ℕ, ◌+◌, ◌-◌, ◌<◌, ◌≤◌, Bool, true, false, ◌⊎◌, List, length, Option, sym, refl, ap, ◌∙◌, subst, inl, inr, arith}
 use Rattle.std.proofs.lemmas.Bool.{not-true}
 use Rattle.schedule.specs.declared.Part.{Part}
 use Rattle.schedule.specs.Lists.{one_if}
-use Rattle.schedule.specs.Layout.{Segment}
 use Rattle.schedule.specs.TickRule.{open_at, hand_over, aged}
 use Rattle.parts.specs.Parts.{parts_of}
 use Rattle.plan.specs.Checks.{part_at}
@@ -12,7 +11,7 @@ use Rattle.machine.specs.declared.jobs.Job.{Job}
 use Rattle.machine.specs.declared.jobs.Job.TheVariants.{Waiting, Ready}
 use Rattle.machine.specs.declared.layout.Layout.{Layout}
 use Rattle.machine.specs.Jobs.{meant, fits, in_time, may, after_event}
-use Rattle.machine.specs.Placing.{begin_at, end_at, segment_at, later_at, next_part, from_part, unplaced}
+use Rattle.machine.specs.Placing.{begin_at, end_at, segment_at, later_at, from_part}
 use Rattle.machine.proofs.Placing.{segments_first, later_next}
 use Rattle.machine.proofs.Ageing
 use Rattle.machine.proofs.jobs.steps.next_state.Goals as goal

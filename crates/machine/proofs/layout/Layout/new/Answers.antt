@@ -1,13 +1,11 @@
-use Rattle.std.proofs.Common.{◌≡◌, ℕ, suc, ◌<◌, true, List, length, get_or, None, sym, refl, ap, ◌∙◌, subst}
+use Rattle.std.proofs.Common.{◌≡◌, ℕ, true, List, sym, subst}
 use Rattle.schedule.specs.declared.Part.{Part}
-use Rattle.plan.specs.Checks.{part_at, numbers_pass}
+use Rattle.plan.specs.Checks.{numbers_pass}
 use Rattle.parts.specs.declared.lists.PartList.{PartList}
 use Rattle.tasks.specs.declared.set.TaskSet.{TaskSet}
 use Rattle.parts.specs.Parts.{parts_of}
-use Rattle.tasks.specs.Sets.{count_of}
 use Rattle.machine.specs.Placing.{Runnable}
 use Rattle.machine.proofs.Ageing.{passed_from, passed_runnable}
-use Rattle.machine.proofs.layout.Layout.new.Given as given
 use Rattle.machine.proofs.layout.Layout.new.Goals as goal
 
 -- The parts of the list can be laid out.

@@ -1,7 +1,6 @@
-use Rattle.std.proofs.Common.{◌≡◌, ℕ, ◌<◌, ◌≤◌, length, get_or, set, replicate, sym, refl, ◌∙◌, arith, below_none, below_more}
+use Rattle.std.proofs.Common.{ℕ, refl, ◌∙◌, arith, below_none, below_more}
 use Rattle.std.proofs.lemmas.List.{length-set, get_or-set_same, get_or-set_other}
 use Rattle.plan.specs.Checks.{part_at}
-use Rattle.machine.specs.Placing.{begin_at}
 use Rattle.machine.proofs.Tables.{all_same, spans_more}
 use Rattle.machine.proofs.layout.tables.begins_of.Goals as goal
 

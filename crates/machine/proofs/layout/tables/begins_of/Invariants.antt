@@ -1,4 +1,4 @@
-use Rattle.std.proofs.Common.{◌≡◌, ℕ, ◌*◌, ◌<◌, ◌≤◌, length, get_or}
+use Rattle.std.proofs.Common.{◌≡◌, ℕ, ◌<◌, length, get_or}
 use Rattle.machine.specs.Placing.{begin_at}
 use Rattle.machine.proofs.Tables.{Spans}
 use Rattle.machine.proofs.layout.tables.begins_of.Given as goal

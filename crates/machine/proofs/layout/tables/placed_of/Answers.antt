@@ -1,7 +1,7 @@
-use Rattle.std.proofs.Common.{◌≡◌, ℕ, suc, ◌+◌, ◌<◌, ◌≤◌, length, get_or, set, replicate, None, Option, sym, refl, ap, ◌∙◌, arith, below_none, below_more}
+use Rattle.std.proofs.Common.{ℕ, ◌+◌, get_or, None, Option, ap, ◌∙◌, arith, below_more}
 use Rattle.std.proofs.lemmas.List.{length-set, get_or-set_same, get_or-set_other}
 use Rattle.plan.specs.Checks.{part_at}
-use Rattle.machine.specs.Placing.{begin_at, next_part, placed_at, unplaced}
+use Rattle.machine.specs.Placing.{begin_at, unplaced}
 use Rattle.machine.specs.declared.placed.PlacedPart.{PlacedPart}
 use Rattle.machine.proofs.Tables.{span_bound}
 use Rattle.machine.proofs.layout.tables.placed_of.Goals as goal

@@ -1,4 +1,4 @@
-use Rattle.std.proofs.Common.{true, false, ◌⊎◌, get_or, sym, ◌∙◌, inl, inr, ⊎_elim, arith, rules}
+use Rattle.std.proofs.Common.{get_or, sym, ◌∙◌, inl, inr, ⊎_elim, arith, rules}
 use Rattle.std.proofs.lemmas.Bool.{true≢false}
 use Rattle.sheet.proofs.Steps.{goes_on, stops_here, ends_here, grows, few, digit_is, refused_stop, off_scale, on_scale, rest_length}
 use Rattle.sheet.proofs.cursor.Cursor.number.Goals as goal

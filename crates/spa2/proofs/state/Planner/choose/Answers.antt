@@ -1,9 +1,8 @@
-use Rattle.std.proofs.Common.{◌≡◌, ℕ, List, Some, None, Option, sym, refl, ap, ◌∙◌, subst, arith}
-use Rattle.spa2.specs.declared.state.Choice.{Choice}
+use Rattle.std.proofs.Common.{◌≡◌, ℕ, List, None, Option, sym, refl, ap, ◌∙◌}
 use Rattle.spa2.specs.declared.state.seats.Seat.{Seat}
 use Rattle.spa2.specs.Choices.{least_loaded_seat}
 use Rattle.front.specs.Fronts.{listed}
-use Rattle.spa2.specs.Placing.{State, choice_of, front_of, with_reserve}
+use Rattle.spa2.specs.Placing.{choice_of, front_of, with_reserve}
 use Rattle.spa2.specs.Seen.{seen}
 use Rattle.spa2.proofs.Scans.{least_found}
 use Rattle.spa2.proofs.Reserves.{taken_known, front_known, others_taken}

@@ -1,8 +1,8 @@
 use Rattle.spa2.proofs.state.Planner.fill.Goals as goal
-use Rattle.std.proofs.Common.{◌≡◌, ℕ, ◌+◌, ◌<◌, ◌≤◌, List, [], ◌∷◌, length, Some, None, sym, refl, ap, ◌∙◌, subst, arith}
+use Rattle.std.proofs.Common.{◌≡◌, ℕ, ◌+◌, ◌<◌, ◌≤◌, List, length, None, sym, ap, ◌∙◌, subst, arith}
 use Rattle.spa2.specs.declared.piece.Piece.{Piece}
 use Rattle.front.specs.Fronts.{listed}
-use Rattle.spa2.specs.Placing.{State, tasks_of, with_pieces, after_choice, returned, reserve_after, chosen, number_of, settled, turns, weight}
+use Rattle.spa2.specs.Placing.{State, tasks_of, with_pieces, after_choice, returned, chosen, number_of, settled, turns, weight}
 use Rattle.spa2.specs.Seen.{seen}
 use Rattle.spa2.proofs.Filling.{turned, turned_lighter, turned_same, room_to_return}
 use Rattle.front.proofs.Memory.{reversed_few}

@@ -1,4 +1,4 @@
-use Rattle.std.proofs.Common.{◌≡◌, ◌≤◌, drop}
+use Rattle.std.proofs.Common.{◌≡◌, drop}
 use Rattle.spa2.specs.Choices.{best_from, least_loaded_seat}
 use Rattle.spa2.proofs.state.Planner.least_loaded.Given as goal
 

@@ -1,6 +1,6 @@
-use Rattle.std.proofs.Common.{◌≡◌, ℕ, ◌+◌, ◌<◌, ◌≤◌, List, ◌∷◌, sym, refl, ap, ◌∙◌, subst, arith}
+use Rattle.std.proofs.Common.{◌≡◌, ℕ, ◌+◌, ◌<◌, List, ◌∷◌, refl, ap, ◌∙◌, arith}
 use Rattle.std.proofs.lemmas.Bool.{leb-false}
-use Rattle.tasks.specs.Sets.{count_of, period_of}
+use Rattle.tasks.specs.Sets.{period_of}
 use Rattle.tasks.proofs.Sets.{period_scaled}
 use Rattle.spa2.specs.declared.piece.Piece.{Piece}
 use Rattle.spa2.specs.Loads.{load_of, cut_of}

@@ -1,4 +1,4 @@
-use Rattle.std.proofs.Common.{◌≡◌, ◌+◌, ◌-◌, ◌≤◌}
+use Rattle.std.proofs.Common.{◌≡◌, ◌-◌}
 use Rattle.tasks.specs.Sets.{count_of}
 use Rattle.spa2.specs.Placing.{tasks_of, visited_from}
 use Rattle.spa2.specs.Seen.{seen}
