@@ -7,7 +7,8 @@ ghost use Rattle.plan.specs.Checks.{off_scale, stranger, twin, same_place, misco
 ghost use Rattle.parts.specs.Parts.{parts_of};
 
 use parts::fault::PlanFault;
-use parts::lists::{MAX_PROCESSORS, PartList};
+pub use parts::lists::MAX_PROCESSORS;
+use parts::lists::PartList;
 use schedule::Part;
 use tasks::fault::SetFault;
 use tasks::set::TaskSet;
