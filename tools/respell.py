@@ -3,6 +3,7 @@
 
 Run once, at the top, right after the kit's port.py. It leaves what std or the logic names, what the check generates
 (the goals of a proof and the steps that a goal tells of), functions and clauses of src/ that are Rust's, and comments.
+In clauses it then names the members of a bound through its parameter, as `O.before` for `before`.
 With --list it only says what it would rename, and which names would fall together.
 """
 import collections
