@@ -10,6 +10,7 @@ ghost use Rattle.rules.specs.Spacing.{spaced_curve};
 mod paired;
 
 use crate::paired::Paired;
+use crate::paired::rule::free_pairs;
 use rules::both::Both;
 use rules::bucket::Bucket;
 use rules::spaced::Spaced;
@@ -18,7 +19,7 @@ use tasks::arrival::ArrivalRule;
 use tasks::fault::SetFault;
 use tasks::set::TaskSet;
 
-// The ticks in which a release is asked for.
+// The ticks in which a release is asked for, in their order.
 const ASKED: [u32; 5] = [0, 10, 20, 99, 100];
 
 // Task 0 spaced by `period` ticks.
@@ -37,20 +38,23 @@ fn spaced_tokens() -> Result<Both<Spaced, Bucket>, SetFault>
 
 // Task 0 spaced by 3 ticks, and releases in pairs.
 fn spaced_pairs() -> Result<Both<Spaced, Paired>, SetFault> {
-    Ok(Both::new(spaced(3)?, Paired::new()))
+    Ok(Both::new(spaced(3)?, free_pairs()))
 }
 
-// Asks the rule for releases of task 0, and says what became of each.
+// Asks the rule for a release of task 0 in each of those ticks, and says what became of it.
 fn show_releases<R: ArrivalRule, P: Print>(rt: &P, rule: &mut R) -> io::Result<()> {
-    for tick in 0..101u32 {
-        if ASKED.contains(&tick) {
-            let answer = match rule.admit(0) {
-                Ok(()) => "taken",
-                Err(_) => "refused",
-            };
-            println!(rt; "{answer} at {tick}")?;
+    let mut now = 0;
+    for tick in ASKED {
+        for _ in now..tick {
+            rule.advance();
         }
-        rule.advance();
+        now = tick;
+        let answer = if rule.admit(0).is_ok() {
+            "taken"
+        } else {
+            "refused"
+        };
+        println!(rt; "{answer} at {tick}")?;
     }
     Ok(())
 }
@@ -65,10 +69,7 @@ fn show_curve<R: ArrivalRule, P: Print>(rt: &P, rule: &R) -> io::Result<()> {
 
 fn main(rt: HostRuntime) -> io::Result<()> {
     match spaced_tokens() {
-        Ok(rule) => {
-            let mut rule = rule;
-            show_releases(&rt, &mut rule)?;
-        }
+        Ok(mut rule) => show_releases(&rt, &mut rule)?,
         Err(fault) => println!(rt; "{fault}")?,
     }
     match spaced_pairs() {

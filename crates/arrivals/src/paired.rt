@@ -1,16 +1,19 @@
 // Releases in pairs: at most one in a tick, and two in seven.
-ghost use Rattle.std.specs.Prelude.{◌≡◌, ℕ, ◌+◌, ◌<◌, ◌≤◌, length, slice_index};
+ghost use Rattle.std.specs.Prelude.{◌+◌, ◌<◌, ◌≤◌};
 
-// For each task two places, each taken by a release for seven ticks: how many ticks until they are free, the sooner and the later.
+use rules::per_task::PerTask;
+
+// Two places of one task, each taken by a release for seven ticks: how many ticks until they are free, the sooner and the later.
 #[derive(Clone, Copy)]
-pub struct Paired {
-    sooner: [u32; 32],
-    later: [u32; 32],
-    ghost wide: { length sooner ≡ 32 },
-    ghost deep: { length later ≡ 32 },
-    ghost sorted: { (i : ℕ) → i < 32 → slice_index sooner i < slice_index later i },
-    ghost close: { (i : ℕ) → i < 32 → slice_index later i < slice_index sooner i + 7 },
-    ghost short: { (i : ℕ) → i < 32 → slice_index later i ≤ 7 },
+pub struct Pair {
+    sooner: u32,
+    later: u32,
+    ghost sorted: { sooner < later },
+    ghost close: { later < sooner + 7 },
+    ghost short: { later ≤ 7 },
 }
+
+// Two places for each task.
+pub type Paired = PerTask<Pair>;
 
 pub mod rule;

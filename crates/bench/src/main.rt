@@ -15,6 +15,7 @@ mod report;
 mod strip;
 
 use names::Names;
+use report::Report;
 
 // What the planner made of a sheet.
 struct Planned {
@@ -37,14 +38,14 @@ fn plan_of_sheet(bytes: &[u8]) -> Result<Planned, PlanFault> {
 fn main(rt: HostRuntime) -> anyhow::Result<()> {
     let names = Names::from_args(&rt)?;
     let mut input = [0; KEPT];
-    let read = read_input(&rt, &mut input)?;
-    match plan_of_sheet(&input[0..read]) {
-        Ok(planned) => {
-            let Planned { sheet, proposal } = planned;
+    let bytes = read_input(&rt, &mut input)?;
+    match plan_of_sheet(bytes) {
+        Ok(Planned { sheet, proposal }) => {
             let parts = proposal.give_up();
-            report::tasks(&rt, &names, &sheet)?;
-            report::processors(&rt, &names, &sheet, parts.as_slice())?;
-            report::cut_tasks(&rt, &names, &sheet, parts.as_slice())?;
+            let report = Report::new(&rt, &names, &sheet);
+            report.tasks()?;
+            report.processors(parts.as_slice())?;
+            report.cut_tasks(parts.as_slice())?;
             strip::drive_and_print(&rt, &sheet, parts)
         }
         Err(fault) => {

@@ -9,18 +9,12 @@ pub struct Names {
 impl Names {
     // The program's arguments, after its own name.
     pub fn from_args(rt: &HostRuntime) -> anyhow::Result<Names> {
-        let mut given = Vec::new(rt.alloc());
-        for name in env::args(rt)?.skip(1) {
-            given.push(name)?;
-        }
+        let given = env::args(rt)?.skip(1).collect(rt.alloc())?;
         Ok(Names { given })
     }
 
     // The name of a task; empty where none was given.
     pub fn of(&self, task: usize) -> &str {
-        match self.given.get(task) {
-            Some(name) => name.as_str(),
-            None => "",
-        }
+        self.given.get(task).map_or("", |name| name.as_str())
     }
 }

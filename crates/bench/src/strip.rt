@@ -1,5 +1,6 @@
 // A stretch of ticks on the machine, with every task released as often as it may be.
-use driving::{Call, Outcome, drive};
+use console::Times;
+use driving::{Call, Done, Outcome, drive};
 use machine::fault::MachineFault;
 use parts::lists::{MAX_PARTS, PartList, Proposal};
 use plan::checked::CheckedPlan;
@@ -27,17 +28,12 @@ fn calls(heap: Global, tasks: usize, processors: usize) -> Result<Vec<Call>, All
     Ok(calls)
 }
 
-// The byte of a processor in what a tick answered.
-fn byte_of(bytes: &[u8; 8], processor: usize) -> u8 {
-    if processor < 8 { bytes[processor] } else { 255 }
-}
-
-// The column of a byte: the letter of a task, or a dot where the processor was idle.
-fn column(byte: u8) -> char {
-    match LETTERS.chars().nth(byte as usize) {
-        Some(letter) => letter,
-        None => '.',
-    }
+// The column of a processor in what a tick answered: the letter of a task, or a dot where the processor was idle.
+fn column(bytes: &[u8; 8], processor: usize) -> char {
+    bytes
+        .get(processor)
+        .and_then(|task| LETTERS.chars().nth(usize::from(*task)))
+        .unwrap_or('.')
 }
 
 // One line for each processor, a column for each tick.
@@ -48,23 +44,14 @@ fn print_strip(rt: &HostRuntime, outcomes: &[Outcome], processors: usize) -> io:
     for processor in 0..processors {
         print!(rt; "processor {processor} ")?;
         for outcome in outcomes {
-            if let Outcome::Ran { bytes } = *outcome {
-                let letter = column(byte_of(&bytes, processor));
+            if let Ok(Done::Ran { bytes }) = *outcome {
+                let letter = column(&bytes, processor);
                 print!(rt; "{letter}")?;
             }
         }
         println!(rt; "")?;
     }
     Ok(())
-}
-
-// The response times of the parts, in their order.
-fn print_times(rt: &HostRuntime, times: &[u32], parts: usize) -> io::Result<()> {
-    print!(rt; "accepted, with response times")?;
-    for time in times.iter().take(parts) {
-        print!(rt; " {time}")?;
-    }
-    println!(rt; "")
 }
 
 // Checks the plan and drives a machine with it; what came of that stands in the buffers.
@@ -78,7 +65,7 @@ fn driven(
     let proposal = Proposal::new(parts)?;
     let rule = Spaced::new(&sheet.set);
     let place = CheckedPlan::new(RateMonotonic, rule);
-    match drive(
+    let machine = drive(
         sheet.set,
         sheet.processors,
         proposal,
@@ -88,23 +75,21 @@ fn driven(
         times,
         calls,
         outcomes,
-    ) {
-        Ok(machine) => {
-            let _ = machine.stop();
-            Ok(())
-        }
-        Err(undriven) => Err(undriven.fault),
-    }
+    )
+    .map_err(|undriven| undriven.fault)?;
+    let _ = machine.stop();
+    Ok(())
 }
 
 // Checks the plan, drives a machine with it and prints what came of it.
 pub fn drive_and_print(rt: &HostRuntime, sheet: &TaskSheet, parts: PartList) -> anyhow::Result<()> {
     let calls = calls(rt.alloc(), sheet.set.count(), sheet.processors)?;
-    let mut outcomes = vec![in rt.alloc(); Outcome::Taken; calls.len()]?;
+    let mut outcomes = vec![in rt.alloc(); Ok(Done::Taken); calls.len()]?;
     let mut times = [0; MAX_PARTS];
     match driven(sheet, parts, &mut times, &calls, &mut outcomes) {
         Ok(()) => {
-            print_times(rt, &times, parts.len())?;
+            let times = Times(&times[0..parts.len()]);
+            println!(rt; "accepted, with response times{times}")?;
             print_strip(rt, &outcomes, sheet.processors)?;
         }
         Err(fault) => println!(rt; "{fault}")?,

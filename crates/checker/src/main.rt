@@ -2,7 +2,9 @@
 // standard output.
 #![tactic(auto)]
 
-use console::{KEPT, read_input};
+ghost use Rattle.std.specs.Prelude.{◌≤◌, length, IfOk};
+
+use console::{KEPT, Times, read_input};
 use parts::fault::PlanFault;
 use parts::lists::MAX_PARTS;
 use plan::check::check;
@@ -13,7 +15,9 @@ use std::io;
 use tasks::rate_monotonic::RateMonotonic;
 
 // Checks the plan of the sheets under rate-monotonic order and spaced arrivals, and answers how many response times it wrote.
-fn check_sheets(bytes: &[u8], times: &mut [u32]) -> Result<usize, PlanFault> {
+fn check_sheets(bytes: &[u8], times: &mut [u32]) -> Result<usize, PlanFault>
+    ensures { IfOk result (λ n. n ≤ length times.new) }
+{
     let (sheet, proposal) = read_both(bytes)?;
     let rule = Spaced::new(&sheet.set);
     let mut place = CheckedPlan::new(RateMonotonic, rule);
@@ -28,21 +32,15 @@ fn check_sheets(bytes: &[u8], times: &mut [u32]) -> Result<usize, PlanFault> {
     )
 }
 
-// Writes R and the first so many response times.
-fn print_times(rt: &HostRuntime, times: &[u32], count: usize) -> io::Result<()> {
-    print!(rt; "R")?;
-    for time in times.iter().take(count) {
-        print!(rt; " {time}")?;
-    }
-    println!(rt; "")
-}
-
 fn main(rt: HostRuntime) -> io::Result<()> {
     let mut input = [0; KEPT];
-    let read = read_input(&rt, &mut input)?;
+    let bytes = read_input(&rt, &mut input)?;
     let mut times = [0; MAX_PARTS];
-    match check_sheets(&input[0..read], &mut times) {
-        Ok(count) => print_times(&rt, &times, count),
+    match check_sheets(bytes, &mut times) {
+        Ok(count) => {
+            let times = Times(&times[0..count]);
+            println!(rt; "R{times}")
+        }
         Err(fault) => println!(rt; "{fault}"),
     }
 }

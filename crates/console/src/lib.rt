@@ -1,17 +1,18 @@
-// What the programs share: reading a sheet from standard input.
+// What the programs share: reading a sheet from standard input, and a list of times as it is printed.
 #![tactic(auto)]
 
-ghost use Rattle.std.specs.Prelude.{◌≤◌, length, IfOk};
+ghost use Rattle.std.specs.Prelude.{◌≤◌, length, IfOk, Some};
+ghost use Rattle.console.specs.Times.{times_text};
 
-use std::io;
 use std::io::Read;
+use std::{fmt, io};
 
 // One byte more than the longest sheet, so that a longer input shows.
 pub const KEPT: usize = 4097;
 
-// Reads standard input into the buffer until the input ends or the buffer is full; the answer is how many bytes were read.
-pub fn read_input(rt: &HostRuntime, buffer: &mut [u8]) -> io::Result<usize>
-    ensures { IfOk result (λ n. n ≤ length buffer.new) }
+// Reads standard input into the buffer until the input ends or the buffer is full; the answer is what was read.
+pub fn read_input<'a>(rt: &HostRuntime, buffer: &'a mut [u8]) -> io::Result<&'a [u8]>
+    ensures { IfOk result (λ read. length read.now ≤ length buffer.old) }
 {
     let size = buffer.len();
     let mut filled = 0;
@@ -23,5 +24,20 @@ pub fn read_input(rt: &HostRuntime, buffer: &mut [u8]) -> io::Result<usize>
         }
         filled += got;
     }
-    Ok(filled)
+    Ok(&buffer[0..filled])
+}
+
+// Times as they are printed, each with a space before it.
+#[derive(Clone, Copy)]
+pub struct Times<'a>(pub &'a [u32]);
+
+impl fmt::Display for Times<'_> {
+    ghost output = { λ t. Some (times_text t.0.now) };
+
+    fn fmt<W: fmt::Write>(&self, f: &mut fmt::Formatter<W>) -> fmt::Result {
+        for time in self.0 {
+            write!(f, " {time}")?;
+        }
+        Ok(())
+    }
 }

@@ -1,6 +1,7 @@
 -- A list of calls made one after another: the machine stays with the tick rule's history.
-use Rattle.std.proofs.Common.{◌≡◌, ℕ, zero, suc, ◌<◌, Bool, List, [], ◌∷◌, ◌++◌, map, length, take, drop, set, sym, refl, ap, ◌∙◌, arith}
+use Rattle.std.proofs.Common.{◌≡◌, ℕ, zero, suc, ◌+◌, ◌<◌, Bool, List, [], ◌∷◌, ◌++◌, map, length, take, drop, set, sym, refl, ap, ◌∙◌, arith}
 use mathlib.Core.List.{map-append}
+use Rattle.std.proofs.lemmas.List.{drop-drop, drop-set-lt}
 use Rattle.schedule.specs.Layout.{System}
 use Rattle.schedule.specs.Sameness.{Same, Alike}
 use Rattle.schedule.specs.TickRule.{State, Answer, History, Event, answers, after_call, history, state_after}
@@ -13,17 +14,13 @@ use Rattle.tasks.specs.declared.order.TaskKey.{TaskKey}
 use Rattle.parts.specs.Parts.{parts_of}
 use Rattle.machine.specs.declared.Machine.{Machine}
 use Rattle.driving.specs.declared.Call.{Call}
-use Rattle.driving.specs.declared.Outcome.{Outcome}
 use Rattle.machine.specs.declared.layout.Layout.{Layout}
-use Rattle.driving.specs.Driving.{call_of, outcome_meant, recorded}
+use Rattle.driving.specs.Driving.{Outcome, call_of, outcome_meant, recorded}
 use Rattle.machine.specs.Meaning.{system_of, Obeyed, GoesOn}
 
 module _ {O R : Type 0} (before : O → TaskKey → TaskKey → Bool) (curve : R → ℕ → ℕ → ℕ) where
-  abbrev pub sys_of : Machine O R → System
-  sys_of m = system_of m (before m.order) (curve m.rule)
-
   -- A machine that goes on runs a system that no call can tell from the one before.
-  pub goes_on_alike : (old new : Machine O R) → GoesOn old new (curve old.rule) (curve new.rule) → Alike (sys_of old) (sys_of new)
+  pub goes_on_alike : (old new : Machine O R) → GoesOn old new curve → Alike (system_of old before curve) (system_of new before curve)
   goes_on_alike old new h =
       let l = sym h.layout in
       let o = sym h.order in
@@ -33,29 +30,26 @@ module _ {O R : Type 0} (before : O → TaskKey → TaskKey → Bool) (curve : R
         parts = ap (λ (x : Layout). parts_of x.list) l;
         costs = λ i hi. ap (λ (x : Layout). cost_of x.set i) l;
         before = λ i k hi hk.
-            ap (λ (x : O). before x (as_asked (key_of old.layout.set i)) (as_asked (key_of old.layout.set k))) o
+            ap (λ (x : O). before x (as_asked (key_of old.dispatcher.layout.set i)) (as_asked (key_of old.dispatcher.layout.set k))) o
             ∙ ap (λ (x : Layout). before new.order (as_asked (key_of x.set i)) (as_asked (key_of x.set k))) l;
         curve = λ i L hi. sym (h.curves (as_numbered i) L (omega arith));
       }
 
-  pub goes_on_refl : (m : Machine O R) → GoesOn m m (curve m.rule) (curve m.rule)
-  goes_on_refl m = record { layout = refl; order = refl; curves = λ i L h. refl }
-
-  pub goes_on_trans : (a b c : Machine O R) → GoesOn a b (curve a.rule) (curve b.rule) → GoesOn b c (curve b.rule) (curve c.rule) →
-      GoesOn a c (curve a.rule) (curve c.rule)
+  pub goes_on_trans : (a b c : Machine O R) → GoesOn a b curve → GoesOn b c curve → GoesOn a c curve
   goes_on_trans a b c h k = record { layout = k.layout ∙ h.layout; order = k.order ∙ h.order; curves = λ i L l. k.curves i L l ∙ h.curves i L l }
 
   -- One call more, made by a machine that has gone on from a first one.
   pub one_more : (first now next : Machine O R) (s t s' : State) (c : rules.Call) (told : Answer) →
-      GoesOn first now (curve first.rule) (curve now.rule) → Same (sys_of first) s t → Obeyed (sys_of now) s c told s' →
-      (told ≡ answers (sys_of first) t c) × Same (sys_of first) s' (after_call (sys_of first) t c)
+      GoesOn first now curve → Same (system_of first before curve) s t → Obeyed (system_of now before curve) s c told s' →
+      (told ≡ answers (system_of first before curve) t c) × Same (system_of first before curve) s' (after_call (system_of first before curve) t c)
   one_more first now next s t s' c told on same obeyed =
+      let old = system_of first before curve in
+      let new = system_of now before curve in
       let alike = goes_on_alike first now on in
-      let back = alike_sym (sys_of first) (sys_of now) alike in
-      let here = alike_same (sys_of first) (sys_of now) alike s t same in (
-        obeyed.answered ∙ alike_answers (sys_of now) (sys_of first) back s t here c,
-        alike_same (sys_of now) (sys_of first) back s' (after_call (sys_of first) t c)
-            (same_trans (sys_of now) s' (after_call (sys_of now) s c) (after_call (sys_of first) t c) obeyed.state (alike_after (sys_of now) (sys_of first) back s t here c)),
+      let back = alike_sym old new alike in
+      let here = alike_same old new alike s t same in (
+        obeyed.answered ∙ alike_answers new old back s t here c,
+        alike_same new old back s' (after_call old t c) (same_trans new s' (after_call new s c) (after_call old t c) obeyed.state (alike_after new old back s t here c)),
       )
 
 -- What is recorded of one call more.
@@ -69,24 +63,13 @@ recorded_more m (d ∷ cs) (x ∷ os) zero c o e h = absurd (omega arith)
 recorded_more m (d ∷ cs) (x ∷ os) (suc i) c o e h = ap {B = History} (λ l. (call_of d, outcome_meant m x) ∷ l) (recorded_more m cs os i c o (omega arith) (omega arith))
 
 -- A write at i leaves what stands after it, and so do all writes before.
-drop_one : (os : List Outcome) (i : ℕ) → drop (suc i) os ≡ drop 1 (drop i os)
-drop_one [] zero = refl
-drop_one [] (suc i) = refl
-drop_one (x ∷ os) zero = refl
-drop_one (x ∷ os) (suc i) = drop_one os i
-
-drop_set : (os : List Outcome) (i : ℕ) (o : Outcome) → drop (suc i) (set os i o) ≡ drop (suc i) os
-drop_set [] i o = refl
-drop_set (x ∷ os) zero o = refl
-drop_set (x ∷ os) (suc i) o = drop_set os i o
-
-pub rest_more : (os old : List Outcome) (i : ℕ) (o : Outcome) → drop i os ≡ drop i old → drop (suc i) (set os i o) ≡ drop (suc i) old
-rest_more os old i o e = drop_set os i o ∙ drop_one os i ∙ ap (λ (l : List Outcome). drop 1 l) e ∙ sym (drop_one old i)
+pub rest_more : (os old : List Outcome) (i : ℕ) (o : Outcome) → drop i os ≡ drop i old → drop (i + 1) (set os i o) ≡ drop (i + 1) old
+rest_more os old i o e = drop-set-lt (i + 1) os i o (omega arith) ∙ sym (drop-drop 1 i os) ∙ ap (λ (l : List Outcome). drop 1 l) e ∙ drop-drop 1 i old
 
 -- The history and the state of the calls so far, and of one more.
-pub history_more : (sys : System) (s : State) (cs : List Call) (i : ℕ) (c : Call) → take (suc i) cs ≡ take i cs ++ (c ∷ []) →
-    (history sys s (map call_of (take (suc i) cs)) ≡ history sys s (map call_of (take i cs)) ++ ((call_of c, answers sys (state_after sys s (map call_of (take i cs))) (call_of c)) ∷ []))
-    × (state_after sys s (map call_of (take (suc i) cs)) ≡ after_call sys (state_after sys s (map call_of (take i cs))) (call_of c))
+pub history_more : (sys : System) (s : State) (cs : List Call) (i : ℕ) (c : Call) → take (i + 1) cs ≡ take i cs ++ (c ∷ []) →
+    (history sys s (map call_of (take (i + 1) cs)) ≡ history sys s (map call_of (take i cs)) ++ ((call_of c, answers sys (state_after sys s (map call_of (take i cs))) (call_of c)) ∷ []))
+    × (state_after sys s (map call_of (take (i + 1) cs)) ≡ after_call sys (state_after sys s (map call_of (take i cs))) (call_of c))
 history_more sys s cs i c e =
     let m = ap (map call_of) e ∙ map-append call_of (take i cs) (c ∷ []) in
     (ap (history sys s) m ∙ history_snoc sys s (map call_of (take i cs)) (call_of c), ap (state_after sys s) m ∙ state_snoc sys s (map call_of (take i cs)) (call_of c))

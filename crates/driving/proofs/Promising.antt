@@ -1,7 +1,7 @@
 -- What a drive rests on: its refusals against the check's, and its history against that of the tick rule.
-use Rattle.std.proofs.Common.{◌≡◌, ℕ, ◌<◌, ◌≤◌, Bool, true, false, ltb, List, length, Some, None, Ok, Err, Option, Result, sym, refl, ap, ◌∙◌, subst, arith}
+use Rattle.std.proofs.Common.{◌≡◌, ℕ, ◌<◌, ◌≤◌, Bool, true, false, ltb, List, length, Some, None, Ok, Err, Option, MatchOption, Result, sym, refl, ap, ◌∙◌, subst, arith}
 use Rattle.std.specs.Bool.{then_some}
-use Rattle.std.proofs.lemmas.Bool.{le-ltb}
+use Rattle.std.proofs.lemmas.Bool.{le-ltb, lt-ltb}
 use Rattle.schedule.specs.declared.Part.{Part}
 use Rattle.schedule.specs.Curves.{Subadditive}
 use Rattle.schedule.specs.Layout.{System}
@@ -31,19 +31,19 @@ use Rattle.machine.specs.declared.fault.MachineFault.{MachineFault}
 use Rattle.machine.specs.declared.fault.MachineFault.TheVariants.{Plan, Cramped}
 use Rattle.driving.specs.Driving.{drive_fault, AsLate}
 use Rattle.machine.specs.Faults.{shown}
-use Rattle.machine.specs.Meaning.{state_of}
-use Rattle.driving.proofs.CallLists.{sys_of}
+use Rattle.machine.specs.Meaning.{system_of, state_of}
+use Rattle.sheet.specs.declared.fault.Layer.TheVariants as Layers
 
 -- The check refused as late.
 abbrev CheckLate : Result ℕ PlanFault → Type 0
-CheckLate r = (f : PlanFault) × (r ≡ Err f) × ((plans.shown f).layer ≡ 75) × ((plans.shown f).number ≡ 10)
+CheckLate r = (f : PlanFault) × (r ≡ Err f) × ((plans.shown f).layer ≡ Layers.Plan) × ((plans.shown f).number ≡ 10)
 
 cramped_not_late : (b : Bool) (n : ℕ) → AsLate (then_some b (Cramped n)) → ⊥
 cramped_not_late true n h =
     let same : Cramped n ≡ h.0 = cc h.1 in
-    let layer : 77 ≡ (shown h.0).layer = ap (λ (f : MachineFault). (shown f).layer) same in
-    omega (arith, layer, h.2)
-cramped_not_late false n h = let z : ◌≡◌ {A = ℕ} 0 1 = cc h.1 in omega arith
+    let layer : Layers.Machine ≡ (shown h.0).layer = ap (λ (f : MachineFault). (shown f).layer) same in
+    cc (layer, h.2)
+cramped_not_late false n h = cc h.1
 
 to_check : (o : Option PlanFault) (n k len : ℕ) → AsLate (drive_fault o n k) → CheckLate (refused_or o len)
 to_check None n k len h = absurd (cramped_not_late (ltb k n) n h)
@@ -52,17 +52,22 @@ to_check (Some f) n k len h =
     (f, refl, ap (λ (x : MachineFault). (shown x).layer) same ∙ h.2, ap (λ (x : MachineFault). (shown x).number) same ∙ h.3)
 
 from_check : (o : Option PlanFault) (n k len : ℕ) → CheckLate (refused_or o len) → AsLate (drive_fault o n k)
-from_check None n k len h = let z : ◌≡◌ {A = ℕ} 0 1 = cc h.1 in absurd (omega arith)
+from_check None n k len h = absurd (cc h.1)
 from_check (Some f) n k len h = let same : f ≡ h.0 = cc h.1 in (Plan h.0, ap (λ (x : PlanFault). Some (Plan x)) same, h.2, h.3)
 
 -- What the check answered tells what it found.
 pub found_by : (o : Option PlanFault) (n : ℕ) (f : PlanFault) → Err f ≡ refused_or o n → o ≡ Some f
-found_by None n f e = let z : ◌≡◌ {A = ℕ} 0 1 = cc in absurd (omega arith)
+found_by None n f e = cc
 found_by (Some g) n f e = cc
 
 pub nothing_by : (o : Option PlanFault) (n k : ℕ) → Ok k ≡ refused_or o n → o ≡ None
 nothing_by None n k e = refl
-nothing_by (Some g) n k e = let z : ◌≡◌ {A = ℕ} 0 1 = cc in absurd (omega arith)
+nothing_by (Some g) n k e = cc
+
+-- Without room, the check's fault or that there is no room is what is refused for.
+pub refused_by : (o : Option PlanFault) (n k : ℕ) (f : MachineFault) → MatchOption o (f ≡ Cramped n) (λ p. f ≡ Plan p) → k < n → Some f ≡ drive_fault o n k
+refused_by None n k f e h = ap (λ (x : MachineFault). Some x) e ∙ ap (λ (b : Bool). then_some b (Cramped n)) (sym (lt-ltb k n h))
+refused_by (Some p) n k f e h = ap (λ (x : MachineFault). Some x) e
 
 -- Without a fault of the check and with room, nothing is refused.
 pub nothing_refused : (o : Option PlanFault) (n k : ℕ) → o ≡ None → n ≤ k → None ≡ drive_fault o n k
@@ -70,13 +75,13 @@ nothing_refused o n k e h = subst (λ (x : Option PlanFault). None ≡ drive_fau
 
 module _ (set : TaskSet) (m : ℕ) (ps : List Part) (before : TaskKey → TaskKey → Bool) (curve : ℕ → ℕ → ℕ) (order_law : LawfulOrder before) (curve_law : LawfulCurves curve) where
   -- The verdict of a drive is as exact as the check's.
-  pub drive_exact : (room n k : ℕ) → earlier_fault set m ps before curve ≡ None → ((i : ℕ) → i < count_of set → Subadditive (curve i)) →
-      (AsLate (drive_fault (check_fault set m ps before curve room) n k) → CanBeLate set m ps before curve)
-      × (CanBeLate set m ps before curve → AsLate (drive_fault (check_fault set m ps before curve room) n k))
-  drive_exact room n k passes sub =
+  pub drive_exact : (room n k : ℕ) (fault : Option MachineFault) → fault ≡ drive_fault (check_fault set m ps before curve room) n k →
+      earlier_fault set m ps before curve ≡ None → ((i : ℕ) → i < count_of set → Subadditive (curve i)) →
+      (AsLate fault → CanBeLate set m ps before curve) × (CanBeLate set m ps before curve → AsLate fault)
+  drive_exact room n k fault e passes sub =
       let exact = exactly_late set m ps before curve order_law curve_law room passes sub in
       let o = check_fault set m ps before curve room in
-      ((λ h. exact.0 (to_check o n k (length ps) h)), (λ can. from_check o n k (length ps) (exact.1 can)))
+      ((λ h. exact.0 (to_check o n k (length ps) (subst AsLate e h))), (λ can. subst AsLate (sym e) (from_check o n k (length ps) (exact.1 can))))
 
   -- An accepted plan keeps its promise on every list of calls.
   pub keeps : verdict set m ps before curve ≡ None → (cs : List rules.Call) →
@@ -103,17 +108,17 @@ system_alike set set' m m' ps ps' before before' curve curve' es em ep eb ec = r
 }
 
 module _ {O R : Type 0} (before : O → TaskKey → TaskKey → Bool) (curve left : R → ℕ → ℕ → ℕ) (sys : System) (first : Machine O R)
-    (alike : Alike sys (sys_of before curve first))
-    (fresh : Same (sys_of before curve first) (state_of first (left first.rule)) (started (sys_of before curve first))) where
+    (alike : Alike sys (system_of first before curve))
+    (fresh : Same (system_of first before curve) (state_of first left) (started (system_of first before curve))) where
   -- The history of a machine from its start is that of the system.
-  pub history_from_start : (cs : List rules.Call) → history (sys_of before curve first) (state_of first (left first.rule)) cs ≡ history sys (started sys) cs
+  pub history_from_start : (cs : List rules.Call) → history (system_of first before curve) (state_of first left) cs ≡ history sys (started sys) cs
   history_from_start cs =
-      same_history (sys_of before curve first) _ _ fresh cs ∙ sym (alike_history sys (sys_of before curve first) alike cs (started sys) (started (sys_of before curve first)) (alike_started sys (sys_of before curve first) alike))
+      same_history (system_of first before curve) _ _ fresh cs ∙ sym (alike_history sys (system_of first before curve) alike cs (started sys) (started (system_of first before curve)) (alike_started sys (system_of first before curve) alike))
 
-  pub state_from_start : (cs : List rules.Call) (s : State) → Same (sys_of before curve first) s (state_after (sys_of before curve first) (state_of first (left first.rule)) cs) →
+  pub state_from_start : (cs : List rules.Call) (s : State) → Same (system_of first before curve) s (state_after (system_of first before curve) (state_of first left) cs) →
       Same sys s (state_after sys (started sys) cs)
   state_from_start cs s h =
-      let b = sys_of before curve first in
+      let b = system_of first before curve in
       let back = alike_sym sys b alike in
       let one = same_trans b s _ (state_after b (started b) cs) h (same_states b _ _ fresh cs) in
       same_trans sys s (state_after b (started b) cs) (state_after sys (started sys) cs) (alike_same b sys back s (state_after b (started b) cs) one)

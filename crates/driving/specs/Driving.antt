@@ -21,9 +21,11 @@ use Rattle.driving.specs.declared.Undriven.{Undriven}
 use Rattle.schedule.specs.TickRule as rules
 use Rattle.driving.specs.declared.Call.{Call}
 use Rattle.driving.specs.declared.Call.TheVariants.{Release, Finish, Tick}
-use Rattle.driving.specs.declared.Outcome.{Outcome}
-use Rattle.driving.specs.declared.Outcome.TheVariants.{Taken, Ran, Refused}
+use Rattle.driving.specs.declared.Done.{Done}
+use Rattle.driving.specs.declared.Done.TheVariants.{Taken, Ran}
+use Rattle.machine.specs.Meaning.{ByMachine}
 use Rattle.machine.specs.Faults.{shown}
+use Rattle.sheet.specs.declared.fault.Layer.TheVariants as Layers
 
 -- The call of the tick rule.
 abbrev pub call_of : Call → rules.Call
@@ -31,11 +33,15 @@ call_of (Release task) = rules.release task
 call_of (Finish task) = rules.finish task
 call_of (Tick room) = rules.tick room
 
+-- What came of a call: what it did, or what it was refused for.
+abbrev pub Outcome : Type 0
+Outcome = Result Done MachineFault
+
 -- The answer of the tick rule on m processors: of a tick, its first m bytes; of a refusal, the fault's number and place.
 abbrev pub outcome_meant : ℕ → Outcome → Answer
-outcome_meant m Taken = taken
-outcome_meant m (Ran bytes) = ran (take m bytes)
-outcome_meant m (Refused fault) = refused (shown fault).number (shown fault).place
+outcome_meant m (Ok Taken) = taken
+outcome_meant m (Ok (Ran bytes)) = ran (take m bytes)
+outcome_meant m (Err fault) = refused (shown fault).number (shown fault).place
 
 -- The history of calls with what came of them, as far as both go.
 abbrev pub recorded : ℕ → List Call → List Outcome → History
@@ -43,19 +49,13 @@ recorded m [] outcomes = []
 recorded m (c ∷ cs) [] = []
 recorded m (c ∷ cs) (o ∷ os) = (call_of c, outcome_meant m o) ∷ recorded m cs os
 
--- A refusal among the outcomes is the machine's own: 77 is the letter's code.
-abbrev pub Own : Outcome → Type 0
-Own Taken = Unit {0}
-Own (Ran bytes) = Unit {0}
-Own (Refused fault) = (shown fault).layer ≡ 77
-
 -- What a drive refuses for: what the check refuses for, and then outcomes without room for every call.
 abbrev pub drive_fault : Option PlanFault → ℕ → ℕ → Option MachineFault
 drive_fault checked calls room = option_or (option_map Plan checked) (then_some (nat_lt room calls) (Cramped calls))
 
 -- Refused as late: 10 of layer K.
 abbrev pub AsLate : Option MachineFault → Type 0
-AsLate fault = (f : MachineFault) × (fault ≡ Some f) × ((shown f).layer ≡ 75) × ((shown f).number ≡ 10)
+AsLate fault = (f : MachineFault) × (fault ≡ Some f) × ((shown f).layer ≡ Layers.Plan) × ((shown f).number ≡ 10)
 
 -- What is kept of a plan that was accepted and driven by a list of calls: `times` and `outcomes` are the buffers after the drive.
 pub record Driven (sys : System) (calls : List Call) (old_times times : List ℕ) (old_outcomes outcomes : List Outcome) : Type 0 where
@@ -64,7 +64,7 @@ pub record Driven (sys : System) (calls : List Call) (old_times times : List ℕ
   -- every call was taken or refused as the tick rule says, from a start on
   pub ruled : recorded sys.procs calls outcomes ≡ history sys (started sys) (map call_of calls)
   -- refusals are the machine's own, and what stood after the outcomes stays
-  pub own : (k : ℕ) → k < length calls → Own (slice_index_or outcomes k Taken)
+  pub own : (k : ℕ) → k < length calls → ByMachine (slice_index_or outcomes k (Ok Taken))
   pub rest : drop (length calls) outcomes ≡ drop (length calls) old_outcomes
   -- in each beginning of what was recorded: no part is late, each runs only inside its window and in order, no task runs on two
   -- processors in one tick, once its last window has passed a job not finished early has run just its cost, and no job more

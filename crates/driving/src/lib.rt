@@ -12,13 +12,15 @@ pub enum Call {
     Tick { room: usize },
 }
 
-// What came of a call. The bytes of a tick past the plan's processors are 255.
+// What a call did that was not refused. The bytes of a tick past the plan's processors are 255.
 #[derive(Clone, Copy)]
-pub enum Outcome {
+pub enum Done {
     Taken,
     Ran { bytes: [u8; 8] },
-    Refused { fault: MachineFault },
 }
+
+// What came of a call: what it did, or what the machine refused it for.
+pub type Outcome = Result<Done, MachineFault>;
 
 // Why a plan was not driven, and the place for a checked plan as it was.
 #[derive(Drop)]

@@ -6,8 +6,7 @@ ghost use Rattle.tasks.specs.Arrivals.{SameCurves};
 ghost use Rattle.parts.specs.Parts.{plan_of, parts_of};
 ghost use Rattle.plan.specs.Systems.{system};
 ghost use Rattle.driving.specs.Driving.{Promised, call_of, fault_in};
-ghost use Rattle.machine.specs.Layouts.{ByOrder};
-ghost use Rattle.machine.specs.Meaning.{state_of};
+ghost use Rattle.machine.specs.Meaning.{state_of, Ranked};
 
 use crate::runs::run;
 use crate::{Call, Outcome, Undriven};
@@ -29,24 +28,23 @@ pub fn drive<O: PriorityOrder + Drop, R: ArrivalRule + Drop>(
     proposal: Proposal,
     order: O,
     rule: R,
-    place: CheckedPlan<O, R>,
+    mut place: CheckedPlan<O, R>,
     responses: &mut [u32],
     calls: &[Call],
     outcomes: &mut [Outcome],
 ) -> Result<Machine<O, R>, Undriven<O, R>>
     ensures promise { Promised set processors (plan_of proposal) (O.before order) (R.curve rule) calls.now responses.old responses.new outcomes.old outcomes.new (fault_in result) }
-    ensures machine { MatchResult result (λ m. ByOrder m.layout (O.before m.order) × (m.layout.set ≡ set) × (m.layout.processors ≡ processors) × (parts_of m.layout.list ≡ plan_of proposal) × (m.order ≡ order) × SameCurves (R.curve rule) (R.curve m.rule) × Same (system set processors (plan_of proposal) (O.before order) (R.curve rule)) (state_of m (R.left m.rule)) (state_after (system set processors (plan_of proposal) (O.before order) (R.curve rule)) (started (system set processors (plan_of proposal) (O.before order) (R.curve rule))) (map call_of calls.now))) (λ u. u.place ≡ place) }
+    ensures machine { MatchResult result (λ m. Ranked m O.before × (m.dispatcher.layout.set ≡ set) × (m.dispatcher.layout.processors ≡ processors) × (parts_of m.dispatcher.layout.list ≡ plan_of proposal) × (m.order ≡ order) × SameCurves (R.curve rule) (R.curve m.rule) × Same (system set processors (plan_of proposal) (O.before order) (R.curve rule)) (state_of m R.left) (state_after (system set processors (plan_of proposal) (O.before order) (R.curve rule)) (started (system set processors (plan_of proposal) (O.before order) (R.curve rule))) (map call_of calls.now))) (λ u. u.place ≡ place) }
 {
     let needed = calls.len();
     if outcomes.len() < needed {
-        let fault = match fault_of(&set, processors, &proposal, &order, &rule, responses.len()) {
-            Some(fault) => MachineFault::Plan(fault),
-            None => MachineFault::Cramped { needed },
-        };
+        let fault = fault_of(&set, processors, &proposal, &order, &rule, responses.len()).map_or(
+            MachineFault::Cramped { needed },
+            MachineFault::from,
+        );
         let _ = proposal.give_up();
         return Err(Undriven { fault, place });
     }
-    let mut place = place;
     match check(
         set, processors, proposal, order, rule, &mut place, responses,
     ) {
@@ -56,7 +54,7 @@ pub fn drive<O: PriorityOrder + Drop, R: ArrivalRule + Drop>(
             Ok(machine)
         }
         Err(fault) => Err(Undriven {
-            fault: MachineFault::Plan(fault),
+            fault: fault.into(),
             place,
         }),
     }

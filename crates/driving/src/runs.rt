@@ -1,84 +1,33 @@
-// Making the calls of a list, one after another.
-ghost use Rattle.std.specs.Prelude.{◌≡◌, ℕ, ◌<◌, ◌≤◌, List, map, length, drop, slice_index_or};
+// Making the calls of a list, one after another. What is asked of a machine here, that its ranks are those of its order, is no
+// part of its type: the type has no bounds, so that all may hold, stop and drop one.
+ghost use Rattle.std.specs.Prelude.{◌≡◌, ℕ, ◌<◌, ◌≤◌, List, map, length, drop, slice_index_or, Ok};
 ghost use Rattle.schedule.specs.TickRule.{history, state_after};
-ghost use Rattle.schedule.specs.TickRule as rules;
 ghost use Rattle.schedule.specs.Sameness.{Same};
-ghost use Rattle.driving.specs.Driving.{call_of, outcome_meant, recorded, Own};
-ghost use Rattle.machine.specs.Layouts.{ByOrder};
-ghost use Rattle.machine.specs.Meaning.{system_of, state_of, answer_of, ByMachine, Obeyed, GoesOn};
-ghost use Rattle.driving.specs.declared.Outcome.TheVariants.{Taken};
+ghost use Rattle.driving.specs.Driving.{call_of, outcome_meant, recorded};
+ghost use Rattle.machine.specs.Meaning.{system_of, state_of, ByMachine, Ranked, Obeys, GoesOn};
+ghost use Rattle.driving.specs.declared.Done.TheVariants.{Taken};
 
-use crate::{Call, Outcome};
+use crate::{Call, Done, Outcome};
 use machine::Machine;
-use machine::fault::MachineFault;
+use parts::lists::MAX_PROCESSORS;
 use tasks::arrival::ArrivalRule;
 use tasks::order::PriorityOrder;
 
-// What came of a release or a finish.
-fn outcome_of(answer: Result<(), MachineFault>) -> Outcome
-    requires { ByMachine answer }
-    ensures meant { (m : ℕ) → outcome_meant m result ≡ answer_of answer rules.taken }
-    ensures own { Own result }
-{
-    match answer {
-        Ok(()) => Outcome::Taken,
-        Err(fault) => Outcome::Refused { fault },
-    }
-}
-
-// A tick with a buffer that every plan's bytes fit into.
-fn tick_with_room<O: PriorityOrder, R: ArrivalRule>(machine: &mut Machine<O, R>) -> Outcome
-    requires { ByOrder machine.old.layout (O.before machine.old.order) }
-    ensures obeyed { Obeyed (system_of machine.old (O.before machine.old.order) (R.curve machine.old.rule)) (state_of machine.old (R.left machine.old.rule)) (rules.tick 8) (outcome_meant machine.old.layout.processors result) (state_of machine.new (R.left machine.new.rule)) }
-    ensures same { GoesOn machine.old machine.new (R.curve machine.old.rule) (R.curve machine.new.rule) }
-    ensures own { Own result }
-{
-    let mut bytes = [255; 8];
-    match machine.tick(&mut bytes) {
-        Ok(()) => Outcome::Ran { bytes },
-        Err(fault) => Outcome::Refused { fault },
-    }
-}
-
-// A tick with no buffer, which is too short for every plan.
-fn tick_without_room<O: PriorityOrder, R: ArrivalRule>(machine: &mut Machine<O, R>) -> Outcome
-    requires { ByOrder machine.old.layout (O.before machine.old.order) }
-    ensures obeyed { Obeyed (system_of machine.old (O.before machine.old.order) (R.curve machine.old.rule)) (state_of machine.old (R.left machine.old.rule)) (rules.tick 0) (outcome_meant machine.old.layout.processors result) (state_of machine.new (R.left machine.new.rule)) }
-    ensures same { GoesOn machine.old machine.new (R.curve machine.old.rule) (R.curve machine.new.rule) }
-    ensures own { Own result }
-{
-    match machine.tick(&mut []) {
-        Ok(()) => Outcome::Taken,
-        Err(fault) => Outcome::Refused { fault },
-    }
-}
-
-// A tick with a buffer of so many bytes: one that is too short is refused whatever its length, and of a longer one only the
-// plan's bytes are written.
-fn tick_with<O: PriorityOrder, R: ArrivalRule>(machine: &mut Machine<O, R>, room: usize) -> Outcome
-    requires { ByOrder machine.old.layout (O.before machine.old.order) }
-    ensures obeyed { Obeyed (system_of machine.old (O.before machine.old.order) (R.curve machine.old.rule)) (state_of machine.old (R.left machine.old.rule)) (rules.tick room) (outcome_meant machine.old.layout.processors result) (state_of machine.new (R.left machine.new.rule)) }
-    ensures same { GoesOn machine.old machine.new (R.curve machine.old.rule) (R.curve machine.new.rule) }
-    ensures own { Own result }
-{
-    if room < machine.processors() {
-        tick_without_room(machine)
-    } else {
-        tick_with_room(machine)
-    }
-}
-
-// Makes one call.
+// Makes one call. A tick is lent as much of a buffer as the call has room for, which no plan needs longer than 8 bytes.
 fn make_call<O: PriorityOrder, R: ArrivalRule>(machine: &mut Machine<O, R>, call: Call) -> Outcome
-    requires { ByOrder machine.old.layout (O.before machine.old.order) }
-    ensures obeyed { Obeyed (system_of machine.old (O.before machine.old.order) (R.curve machine.old.rule)) (state_of machine.old (R.left machine.old.rule)) (call_of call) (outcome_meant machine.old.layout.processors result) (state_of machine.new (R.left machine.new.rule)) }
-    ensures same { GoesOn machine.old machine.new (R.curve machine.old.rule) (R.curve machine.new.rule) }
-    ensures own { Own result }
+    requires { Ranked machine.old O.before }
+    ensures obeyed { Obeys machine.old machine.new O.before R.curve R.left (call_of call) (outcome_meant machine.old.dispatcher.layout.processors result) }
+    ensures same { GoesOn machine.old machine.new R.curve }
+    ensures own { ByMachine result }
 {
     match call {
-        Call::Release { task } => outcome_of(machine.release(task)),
-        Call::Finish { task } => outcome_of(machine.finish(task)),
-        Call::Tick { room } => tick_with(machine, room),
+        Call::Release { task } => machine.release(task).map(|()| Done::Taken),
+        Call::Finish { task } => machine.finish(task).map(|()| Done::Taken),
+        Call::Tick { room } => {
+            let mut bytes = [255; MAX_PROCESSORS];
+            machine.tick(&mut bytes[..room.min(MAX_PROCESSORS)])?;
+            Ok(Done::Ran { bytes })
+        }
     }
 }
 
@@ -88,15 +37,16 @@ pub(crate) fn run<O: PriorityOrder, R: ArrivalRule>(
     calls: &[Call],
     outcomes: &mut [Outcome],
 )
-    requires ranked { ByOrder machine.old.layout (O.before machine.old.order) }
+    requires ranked { Ranked machine.old O.before }
     requires room { length calls.now ≤ length outcomes.old }
-    ensures told { recorded machine.old.layout.processors calls.now outcomes.new ≡ history (system_of machine.old (O.before machine.old.order) (R.curve machine.old.rule)) (state_of machine.old (R.left machine.old.rule)) (map call_of calls.now) }
-    ensures state { Same (system_of machine.old (O.before machine.old.order) (R.curve machine.old.rule)) (state_of machine.new (R.left machine.new.rule)) (state_after (system_of machine.old (O.before machine.old.order) (R.curve machine.old.rule)) (state_of machine.old (R.left machine.old.rule)) (map call_of calls.now)) }
-    ensures same { GoesOn machine.old machine.new (R.curve machine.old.rule) (R.curve machine.new.rule) }
-    ensures own { (k : ℕ) → k < length calls.now → Own (slice_index_or outcomes.new k Taken) }
+    ensures told { recorded machine.old.dispatcher.layout.processors calls.now outcomes.new ≡ history (system_of machine.old O.before R.curve) (state_of machine.old R.left) (map call_of calls.now) }
+    ensures state { Same (system_of machine.old O.before R.curve) (state_of machine.new R.left) (state_after (system_of machine.old O.before R.curve) (state_of machine.old R.left) (map call_of calls.now)) }
+    ensures same { GoesOn machine.old machine.new R.curve }
+    ensures own { (k : ℕ) → k < length calls.now → ByMachine (slice_index_or outcomes.new k (Ok Taken)) }
     ensures rest { drop (length calls.now) outcomes.new ≡ drop (length calls.now) outcomes.old }
 {
-    for i in 0..calls.len() {
-        outcomes[i] = make_call(machine, calls[i]);
+    // the outcomes by number: after a `zip` with `iter_mut` a proof knows no element of them
+    for (i, call) in calls.iter().enumerate() {
+        outcomes[i] = make_call(machine, *call);
     }
 }

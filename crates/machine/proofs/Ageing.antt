@@ -73,9 +73,6 @@ ready_fits ps age left k e =
     let d = and_parts _ _ b.1 in
     (ltb-true _ _ a.0, leb-true _ _ b.0, ltb-true _ _ d.0, ltb-true _ _ d.1)
 
-pub fits_waiting : (ps : List Part) (age k : ℕ) → k < length ps → age < begin_at ps k → fits ps (Waiting age k) ≡ true
-fits_waiting ps age k h l = and_from _ _ (lt-ltb _ _ h) (lt-ltb _ _ l)
-
 pub fits_ready : (ps : List Part) (age left k : ℕ) → k < length ps → begin_at ps k ≤ age → age < end_at ps k → 1 ≤ left → fits ps (Ready age left k) ≡ true
 fits_ready ps age left k h b e l = and_from _ _ (lt-ltb _ _ h) (and_from _ _ (le-leb _ _ b) (and_from _ _ (lt-ltb _ _ e) (lt-ltb _ _ l)))
 
@@ -122,11 +119,6 @@ aged_over ran age left g gs (inr e) = go (eqb (left - one_if ran) 0)
     go : (b : Bool) → cond b (hand_over (age + 1) gs) (cond (eqb (age + 1) g.end) (hand_over (age + 1) gs) (open_at (age + 1) (left - one_if ran) g gs)) ≡ hand_over (age + 1) gs
     go true = refl
     go false = cond-true _ _ _ (eq-eqb _ _ e)
-
--- Else it goes on.
-pub aged_on : (ran : Bool) (age left : ℕ) (g : Segment) (gs : List Segment) → (left - one_if ran ≡ 0 → ⊥) → (age + 1 ≡ g.end → ⊥) →
-    aged ran (open_at age left g gs) ≡ open_at (age + 1) (left - one_if ran) g gs
-aged_on ran age left g gs n e = cond-false _ _ _ (ne_eqb _ _ n) ∙ cond-false _ _ _ (ne_eqb _ _ e)
 
 -- What is left of a cost after a tick.
 pub rest_ran : (ran : Bool) (left rest : ℕ) → ran ≡ true → rest ≡ left - 1 → rest ≡ left - one_if ran

@@ -16,10 +16,9 @@ use Rattle.tasks.specs.Sets.{count_of}
 use Rattle.tasks.specs.declared.order.TaskKey.{TaskKey}
 use Rattle.tasks.specs.declared.set.TaskSet.{TaskSet}
 use Rattle.plan.specs.Checks.{verdict, number_fault, overlap, late, earlier_fault, late_fault}
-use Rattle.parts.specs.Parts.{parts_of}
+use Rattle.parts.specs.Parts.{PartList, parts_of}
 use Rattle.plan.specs.Systems.{system}
 use Rattle.parts.specs.declared.fault.PlanFault.{PlanFault}
-use Rattle.parts.specs.declared.lists.PartList.{PartList}
 use Rattle.parts.specs.declared.fault.PlanFault.TheVariants.{Overlap, Late}
 use Rattle.plan.proofs.Passing.{or_none}
 use Rattle.tasks.specs.Orders.{LawfulOrder}
@@ -28,7 +27,7 @@ use Rattle.machine.specs.declared.layout.Layout.{Layout}
 use Rattle.machine.specs.declared.Machine.{Machine}
 use Rattle.machine.specs.Layouts.{ByOrder}
 use Rattle.machine.specs.Life.{Lived, Lives, LifeGoesOn}
-use Rattle.machine.specs.Meaning.{laid_system, system_of, state_of, Obeyed, GoesOn}
+use Rattle.machine.specs.Meaning.{laid_system, system_of, state_of, Obeyed, Ranked, Obeys, GoesOn}
 
 -- A machine that has just been started has lived nothing.
 pub born : (sys : System) (s : State) → Same sys s (started sys) → Lived sys s []
@@ -103,26 +102,31 @@ module _ (l l' : Layout) (before before' : TaskKey → TaskKey → Bool) (curve 
   pub order_kept : ByOrder l before → ByOrder l' before'
   order_kept ranked = subst (λ (x : Layout). ByOrder x before') (sym same_layout) (subst (ByOrder l) (sym same_before) ranked)
 
-module _ {O R : Type 0} (old new : Machine O R) (order : O → TaskKey → TaskKey → Bool) (curve curve' left left' : ℕ → ℕ → ℕ) (c : Call) (told : Answer)
-    (order_law : LawfulOrder (order old.order)) (curve_law : LawfulCurves curve) (goes : GoesOn old new curve curve')
-    (obeyed : ByOrder old.layout (order old.order) → Obeyed (system_of old (order old.order) curve) (state_of old left) c told (state_of new left')) where
-  same_before : order new.order ≡ order old.order
-  same_before = ap order goes.order
+module _ {O R : Type 0} (before : O → TaskKey → TaskKey → Bool) (curve left : R → ℕ → ℕ → ℕ) where
+  module _ (old new : Machine O R) (c : Call) (told : Answer) (order_law : LawfulOrder (before old.order)) (curve_law : LawfulCurves (curve old.rule)) (goes : GoesOn old new curve)
+      (obeyed : Ranked old before → Obeys old new before curve left c told) where
+    same_before : before new.order ≡ before old.order
+    same_before = ap before goes.order
 
-  more : (h : History) → Lives old (order old.order) curve left h → Lived (system_of old (order old.order) curve) (state_of new left') (h ++ ((c, told) ∷ []))
-  more h lives = lived_on (system_of old (order old.order) curve) (state_of old left) (state_of new left') c told (obeyed lives.0) h lives.1
+    more : (h : History) → Lives old before curve left h → Lived (system_of old before curve) (state_of new left) (h ++ ((c, told) ∷ []))
+    more h lives = lived_on (system_of old before curve) (state_of old left) (state_of new left) c told (obeyed lives.0) h lives.1
 
-  pub life_goes_on : LifeGoesOn old new (order old.order) (order new.order) curve curve' left left' c told
-  life_goes_on =
-      let kept_system = system_kept old.layout new.layout (order old.order) (order new.order) curve curve' goes.layout same_before goes.curves in
-      record {
-        lives = λ h lives. (
-          order_kept old.layout new.layout (order old.order) (order new.order) curve curve' goes.layout same_before goes.curves lives.0,
-          subst (λ (sys : System). Lived sys (state_of new left') (h ++ ((c, told) ∷ []))) kept_system (more h lives),
-        );
-        kept = λ accepted h lives.
-            subst (λ (sys : System). KeptThroughout sys (h ++ ((c, told) ∷ []))) kept_system
-            (lived_kept old.layout.set old.layout.processors (parts_of old.layout.list) (order old.order) curve order_law curve_law accepted (state_of new left') (h ++ ((c, told) ∷ [])) (more h lives));
-        accepted = λ accepted.
-            sym (verdict_kept old.layout new.layout (order old.order) (order new.order) curve curve' goes.layout same_before goes.curves) ∙ accepted;
-      }
+    pub life_goes_on : LifeGoesOn old new before curve left c told
+    life_goes_on =
+        let l = old.dispatcher.layout in
+        let kept_system = system_kept l new.dispatcher.layout (before old.order) (before new.order) (curve old.rule) (curve new.rule) goes.layout same_before goes.curves in
+        record {
+          lives = λ h lives. (
+            order_kept l new.dispatcher.layout (before old.order) (before new.order) (curve old.rule) (curve new.rule) goes.layout same_before goes.curves lives.0,
+            subst (λ (sys : System). Lived sys (state_of new left) (h ++ ((c, told) ∷ []))) kept_system (more h lives),
+          );
+          kept = λ accepted h lives.
+              subst (λ (sys : System). KeptThroughout sys (h ++ ((c, told) ∷ []))) kept_system
+              (lived_kept l.set l.processors (parts_of l.list) (before old.order) (curve old.rule) order_law curve_law accepted (state_of new left) (h ++ ((c, told) ∷ [])) (more h lives));
+          accepted = λ accepted.
+              sym (verdict_kept l new.dispatcher.layout (before old.order) (before new.order) (curve old.rule) (curve new.rule) goes.layout same_before goes.curves) ∙ accepted;
+        }
+
+  -- A call that is refused changes nothing.
+  pub refused_life : (m : Machine O R) (c : Call) (told : Answer) → LawfulOrder (before m.order) → LawfulCurves (curve m.rule) → Obeys m m before curve left c told → LifeGoesOn m m before curve left c told
+  refused_life m c told order_law curve_law obeyed = life_goes_on m m c told order_law curve_law (record { layout = refl; order = refl; curves = λ i L h. refl }) (λ ranked. obeyed)

@@ -28,6 +28,11 @@ obeyed_refused sys s (release i) k p e = obeyed_from sys s s (release i) (refuse
 obeyed_refused sys s (finish i) k p e = obeyed_from sys s s (finish i) (refused k p) e (same_refl sys s)
 obeyed_refused sys s (tick n) k p e = obeyed_from sys s s (tick n) (refused k p) e (same_refl sys s)
 
+-- A state that is left under the same layout.
+pub obeyed_on : (l l' : Layout) → l' ≡ l → (sys : System) (old : State) (c : Call) (told : Answer) (table : JobTable) (clock : ℕ) (left : ℕ → ℕ → ℕ) →
+    Obeyed sys old c told (table_state l table clock left) → Obeyed sys old c told (table_state l' table clock left)
+obeyed_on l l' e sys old c told table clock left h = subst (λ (x : Layout). Obeyed sys old c told (table_state x table clock left)) (sym e) h
+
 module _ (l : Layout) (before : TaskKey → TaskKey → Bool) (curve left : ℕ → ℕ → ℕ) (table : JobTable) (clock : ℕ) where
   -- A task that there is not.
   pub unknown_released : (i : ℕ) → count_of l.set ≤ i → Obeyed (laid_system l before curve) (table_state l table clock left) (release i) (refused 13 i) (table_state l table clock left)

@@ -97,7 +97,7 @@ pub record Next (ps : List Part) (i from j : ℕ) : Type 0 where
   pub span : span_of (take j ps) i ≡ span_of (take from ps) i
 
 next_seam : (i : ℕ) (front back : List Part) (j : ℕ) → next_from i (length front) back ≡ Some j → Next (front ++ back) i (length front) j
-next_seam i front [] j e = absurd (let z : ◌≡◌ {A = ℕ} 0 1 = cc in omega arith)
+next_seam i front [] j e = absurd (cc)
 next_seam i front (p ∷ ps) j e = elim (cases_eq p.task i) [
   | inl own ↦
       let here : Some (length front) ≡ Some j = sym (cond-true (eqb p.task i) (Some (length front)) (next_from i (suc (length front)) ps) (eq-eqb p.task i own)) ∙ e in
@@ -124,12 +124,6 @@ next_is ps i from j h e =
     let all : take from ps ++ drop from ps ≡ ps = take-append-drop from ps in
     let there : next_from i (length (take from ps)) (drop from ps) ≡ Some j = ap (λ (z : ℕ). next_from i z (drop from ps)) n ∙ e in
     subst (λ (z : ℕ). Next ps i z j) n (subst (λ (l : List Part). Next l i (length (take from ps)) j) all (next_seam i (take from ps) (drop from ps) j there))
-
--- A first part begins at once.
-pub first_begins : (ps : List Part) (i j : ℕ) → next_part ps i 0 ≡ Some j → begin_at ps j ≡ 0
-first_begins ps i j e =
-    let n = next_is ps i 0 j (omega arith) e in
-    ap (span_of (take j ps)) n.own ∙ n.span
 
 -- A next part begins where the part before it ends.
 pub next_begins : (ps : List Part) (k j : ℕ) → k < length ps → next_part ps (part_at ps k).task (suc k) ≡ Some j → begin_at ps j ≡ end_at ps k

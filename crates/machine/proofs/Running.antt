@@ -1,6 +1,9 @@
 -- The lowest set bit of a ready word names the task that runs.
-use Rattle.std.proofs.Common.{◌≡◌, ℕ, zero, suc, ◌<◌, ◌≤◌, Bool, true, false, cond, eqb, ltb, ◌⊎◌, List, [], ◌∷◌, get_or, sym, refl, ap, ◌∙◌, subst, inl, inr, arith}
+use Rattle.std.proofs.Common.{◌≡◌, ℕ, zero, suc, ◌+◌, ◌<◌, ◌≤◌, Bool, true, false, cond, eqb, ltb, ◌⊎◌, List, [], ◌∷◌, get_or, sym, refl, ap, ◌∙◌, subst, inl, inr, arith}
 use lib.Count.{count_trailing_zeros}
+use denote.Param.Members.{Called, Mut}
+use Rattle.std.specs.Array.{MapsFrom}
+use Rattle.std.proofs.lemmas.List.{get_or_default, get_or_past}
 use Rattle.std.proofs.lemmas.Bool.{cases_Bool, cases_eq, cases_lt, and_from, and_parts, or_cases, or_right, or_left, eq-eqb, ne_eqb, eqb-true, ltb-true, ltb-false, both_ways}
 use Rattle.schedule.specs.Lists.{◌∈◌, below}
 use Rattle.schedule.specs.Layout.{System}
@@ -22,7 +25,7 @@ use Rattle.machine.proofs.States.{meant_job}
 
 -- Where the test holds of some number, it holds of one that can be named; where of none, of none.
 pub some_found : (n : ℕ) (t : ℕ → Bool) → some_below n t ≡ true → (i : ℕ) × (i < n) × (t i ≡ true)
-some_found zero t e = absurd (let z : ◌≡◌ {A = ℕ} 0 1 = cc in omega arith)
+some_found zero t e = absurd (cc)
 some_found (suc n) t e = elim (or_cases (some_below n t) (t n) e) [
   | inl h ↦ let r = some_found n t h in (r.0, (omega (arith, r.1)), r.2)
   | inr h ↦ (n, (omega arith), h)
@@ -129,15 +132,6 @@ module _ (l : Layout) (table : JobTable) (before : TaskKey → TaskKey → Bool)
       (λ k h e. sym (l.apart k h) ∙ ap (λ (z : ℕ). get_or l.by_rank z 0) (ranked k h ∙ e ∙ sym (ranked i found.1)) ∙ l.apart i found.1) in
       task ∙ sym runs
 
--- The table of ranks names a task where a rank is ready.
-pub rank_named : (l : Layout) (table : JobTable) (p r : ℕ) → some_below (count_of l.set) (ready_as l table p r) ≡ true → get_or l.by_rank r 0 < 32
-rank_named l table p r here =
-    let found = some_found (count_of l.set) (ready_as l table p r) here in
-    let both = and_parts _ _ found.2 in
-    let own : get_or l.ranks found.0 0 ≡ r = eqb-true _ _ both.0 in
-    let task : get_or l.by_rank r 0 ≡ found.0 = ap (λ (z : ℕ). get_or l.by_rank z 0) (sym own) ∙ l.apart found.0 found.1 in
-    omega (arith, task, found.1, l.set.few)
-
 -- What the lowest set bit of a ready word tells.
 pub lowest_of : (l : Layout) (table : JobTable) (p r word : ℕ) → r ≡ count_trailing_zeros 32 word → word ≡ table_word l table p →
     Lowest (λ q. some_below (count_of l.set) (ready_as l table p q)) 32 r
@@ -148,6 +142,29 @@ lowest_of l table p r word e w =
 abbrev pub Names : Layout → JobTable → ℕ → ℕ → Type 0
 Names l table p byte =
     (before : TaskKey → TaskKey → Bool) (curve left : ℕ → ℕ → ℕ) (clock : ℕ) → ByOrder l before → byte ≡ runs_on (laid_system l before curve) (table_state l table clock left) p
+
+-- The byte for a ready word says which task its processor runs.
+pub word_names : (l : Layout) (table : JobTable) (p word : ℕ) → word ≡ table_word l table p → Names l table p (get_or l.by_rank (count_trailing_zeros 32 word) 255)
+word_names l table p word e before curve left clock ranked =
+    let r : ℕ = count_trailing_zeros 32 word in
+    let low = lowest_of l table p r word refl e in
+    elim (cases_lt r 32) [
+      | inl h ↦ get_or_default l.by_rank r 255 0 (omega (arith, l.all_ranked)) ∙ lowest_runs l table before curve left clock ranked p r (low.here h) low.under_it
+      | inr h ↦ get_or_past l.by_rank r 255 (omega (arith, l.all_ranked)) ∙ sym (none_runs l table before curve left clock ranked p (λ q lt. low.under_it q (omega arith)))
+    ]
+
+-- What a closure that answers h of each element, and stays as it was, makes of the elements from i on.
+pub mapped : {F A B : Type 0} (g : Mut F (A × Unit {0}) B) (f : F) (h : A → B) (xs : List A) (ys : List B) (i n : ℕ) → ((x : A) (y : B) (q : F) → Called g f (x, tt) y q → (q ≡ f) × (y ≡ h x)) →
+    MapsFrom g f xs ys i n → (k : ℕ) (d : A) (e : B) → i ≤ k → k < i + n → get_or ys k e ≡ h (get_or xs k d)
+mapped g f h xs ys i zero call maps k d e low high = absurd (omega arith)
+mapped {F} {A} {B} g f h xs ys i (suc n) call maps k d e low high =
+    let q = maps.0 in
+    let made = call maps.1 maps.2 q maps.5 in
+    elim (cases_eq k i) [
+      | inl same ↦
+          ap (λ (z : ℕ). get_or ys z e) same ∙ maps.4.1 e ∙ made.1 ∙ ap h (sym (maps.3.1 d)) ∙ ap (λ (z : ℕ). h (get_or xs z d)) (sym same)
+      | inr ne ↦ mapped g f h xs ys (i + 1) n call (subst (λ (z : F). MapsFrom g z xs ys (i + 1) n) made.0 maps.6) k d e (omega arith) (omega arith)
+    ]
 
 -- What runs on a processor is ready there.
 pub named_ready : (sys : System) (s : State) (p i : ℕ) → i < 255 → runs_on sys s p ≡ i → ready_on p (job s i) ≡ true

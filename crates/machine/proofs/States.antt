@@ -1,12 +1,16 @@
 -- What the records of a table mean, after one of them has changed.
 use Rattle.std.proofs.Common.{◌≡◌, ℕ, zero, suc, ◌<◌, ◌≤◌, true, false, List, [], ◌∷◌, map, length, get_or, take, set, replicate, sym, refl, ap, ◌∙◌, subst, inl, inr, arith}
 use Rattle.std.proofs.lemmas.Bool.{cases_eq, cases_lt}
-use Rattle.std.proofs.lemmas.List.{get_or-set_same, get_or-set_other, set_past, length-set}
+use Rattle.std.proofs.lemmas.List.{get_or-set_same, get_or-set_other, set_past}
 use Rattle.schedule.specs.declared.Part.{Part}
 use Rattle.schedule.specs.TickRule as Rule
 use Rattle.machine.specs.declared.jobs.Job.{Job}
 use Rattle.machine.specs.declared.jobs.Job.TheVariants.{Closed, Waiting, Ready}
+use Rattle.machine.specs.declared.jobs.JobTable.{JobTable}
+use Rattle.machine.specs.declared.layout.Layout.{Layout}
+use Rattle.parts.specs.Parts.{parts_of}
 use Rattle.machine.specs.Jobs.{meant, fits}
+use Rattle.machine.proofs.Tables.{all_same}
 
 module _ (ps : List Part) where
   -- No job is open where every record is closed.
@@ -45,9 +49,9 @@ module _ (ps : List Part) where
   open_meant (Waiting age part) ne = refl
   open_meant (Ready age left part) ne = refl
 
--- A table with one record replaced is as long as it was.
-pub length_kept : (after jobs : List Job) (i : ℕ) (j : Job) → after ≡ set jobs i j → length jobs ≡ 32 → length after ≡ 32
-length_kept after jobs i j e h = ap length e ∙ length-set jobs i j ∙ h
-
-pub fits_kept : (ps : List Part) (after jobs : List Job) (i : ℕ) (j : Job) → after ≡ set jobs i j → ((k : ℕ) → fits ps (get_or jobs k Closed) ≡ true) → fits ps j ≡ true → (k : ℕ) → fits ps (get_or after k Closed) ≡ true
-fits_kept ps after jobs i j e all here k = subst (λ (xs : List Job). fits ps (get_or xs k Closed) ≡ true) (sym e) (fits_set ps jobs i j all here k)
+-- Where every record is closed, all fit.
+pub all_closed : (l : Layout) (table : JobTable) → table.jobs ≡ replicate 32 Closed → record { whole : length table.jobs ≡ 32; fitting : (i : ℕ) → fits (parts_of l.list) (get_or table.jobs i Closed) ≡ true }
+all_closed l table e = record {
+  whole = ap length e;
+  fitting = λ i. ap (λ (js : List Job). fits (parts_of l.list) (get_or js i Closed)) e ∙ ap (fits (parts_of l.list)) (all_same 32 i Closed);
+}

@@ -1,6 +1,6 @@
 -- How the tables of a layout grow by one part.
-use Rattle.std.proofs.Common.{◌≡◌, ℕ, zero, suc, ◌+◌, ◌*◌, ◌<◌, ◌≤◌, Bool, true, false, cond, eqb, List, length, get_or, take, drop, set, replicate, Some, None, Option, sym, refl, ap, ◌∙◌, subst, inl, inr, arith}
-use Rattle.std.proofs.lemmas.List.{get_or-set_same, get_or-set_other, drop_more, drop_all}
+use Rattle.std.proofs.Common.{◌≡◌, ℕ, zero, suc, ◌+◌, ◌*◌, ◌<◌, ◌≤◌, Bool, true, false, cond, eqb, List, [], ◌∷◌, ◌++◌, length, get_or, take, drop, set, replicate, Some, None, Option, sym, refl, ap, ◌∙◌, subst, inl, inr, arith}
+use Rattle.std.proofs.lemmas.List.{get_or-set_same, get_or-set_other, get_or-take, get_or_at, drop_more, drop_all, length-append, length-take, take-take, take_at}
 use Rattle.std.proofs.lemmas.Bool.{cases_eq, eq-eqb, ne_eqb}
 use Rattle.schedule.specs.declared.Part.{Part}
 use Rattle.schedule.specs.Layout.{span_of}
@@ -32,10 +32,6 @@ Spans ps k spans = (i : ℕ) → i < 32 → (get_or spans i 0 ≡ span_of (take 
 added : (b : Bool) (x y w : ℕ) → cond b (x + w) y ≡ cond b x y + cond b w 0
 added true x y w = refl
 added false x y w = omega arith
-
-pick : (b : Bool) (x y : ℕ) → (b ≡ true → x ≡ y) → cond b x y ≡ y
-pick true x y e = e refl
-pick false x y e = refl
 
 at_most : (b : Bool) (w m : ℕ) → w ≤ m → cond b w 0 ≤ m
 at_most true w m h = h
@@ -75,18 +71,6 @@ firsts_more ps k first h whole t f i l =
     ∙ ap (λ (o : Option ℕ). cond (eqb (part_at ps k).task i) (Some k) o) (f i l)
     ∙ sym (next_here ps i k h)
 
--- The next parts of those from k on.
-abbrev pub Nexts : List Part → ℕ → List (Option ℕ) → Type 0
-Nexts ps k next = (j : ℕ) → k ≤ j → j < length ps → get_or next j None ≡ next_part ps (part_at ps j).task (suc j)
-
-pub nexts_more : (ps : List Part) (k : ℕ) (next first : List (Option ℕ)) → k < length next → (part_at ps k).task < 32 → Firsts ps (suc k) first → Nexts ps (suc k) next →
-    Nexts ps k (set next k (get_or first (part_at ps k).task None))
-nexts_more ps k next first h t f n j low high = elim (cases_eq k j) [
-  | inl e ↦ subst (λ (z : ℕ). get_or (set next k (get_or first (part_at ps k).task None)) z None ≡ next_part ps (part_at ps z).task (suc z)) e
-      (get_or-set_same next k _ None h ∙ f (part_at ps k).task t)
-  | inr ne ↦ get_or-set_other next k j _ None (λ e. ne (sym e)) ∙ n j (omega arith) high
-]
-
 -- The windows of k parts are at most 100,000 ticks each.
 pub span_bound : (ps : List Part) → Runnable ps → (k i : ℕ) → k ≤ length ps → span_of (take k ps) i ≤ k * 100000
 span_bound ps r zero i h = omega arith
@@ -94,3 +78,15 @@ span_bound ps r (suc k) i h =
     let up : k + 1 ≡ suc k = omega arith in
     let one : span_of (take (k + 1) ps) i ≡ span_of (take (suc k) ps) i = ap (λ (n : ℕ). span_of (take n ps) i) up in
     omega (arith, one, span_more ps k i (omega arith), at_most (eqb (part_at ps k).task i) (part_at ps k).window 100000 (r.1 k (omega arith)).1, span_bound ps r k i (omega arith))
+
+-- Of the first parts, the last one and those before it.
+pub split_last : (ps rest : List Part) (p : Part) → rest ++ (p ∷ []) ≡ take (length (rest ++ (p ∷ []))) ps → (rest ≡ take (length rest) ps) × (p ≡ part_at ps (length rest)) × (length rest < length ps)
+split_last ps rest p e =
+    let n = length rest in
+    let zero_part : Part = record { task = 0; processor = 0; cost = 0; window = 0 } in
+    let long : length (rest ++ (p ∷ [])) ≡ n + 1 = length-append rest (p ∷ []) in
+    let all : rest ++ (p ∷ []) ≡ take (n + 1) ps = subst (λ (m : ℕ). rest ++ (p ∷ []) ≡ take m ps) long e in (
+      sym (take_at rest (p ∷ []) n refl) ∙ ap (take n) all ∙ take-take n (n + 1) ps (omega arith),
+      sym (get_or_at rest p [] zero_part n refl) ∙ ap (λ (xs : List Part). get_or xs n zero_part) all ∙ get_or-take (n + 1) ps n zero_part (omega arith),
+      omega (arith, long, ap length all, length-take (n + 1) ps),
+    )

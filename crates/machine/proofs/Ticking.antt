@@ -72,18 +72,18 @@ module _ (l : Layout) (before : TaskKey → TaskKey → Bool) (curve left : ℕ 
         ∙ sym (job_ticked sys s i ∙ ap (λ j. aged (ran_in sys s i j) j) now))
 
     -- A tick that is taken.
-    pub tick_obeyed : (after : JobTable) (rest : ℕ → ℕ → ℕ) (bytes : List ℕ) → clock < 2 ^ 40 → l.processors ≤ length bytes →
-        ((p : ℕ) → p < l.processors → get_or bytes p 0 ≡ get_or running p 0) → length table.jobs ≡ 32 → length after.jobs ≡ 32 →
+    pub tick_obeyed : (after : JobTable) (rest : ℕ → ℕ → ℕ) (size : ℕ) (bytes : List ℕ) → clock < 2 ^ 40 → l.processors ≤ size → l.processors ≤ length running →
+        bytes ≡ take l.processors running → length table.jobs ≡ 32 → length after.jobs ≡ 32 →
         ((i : ℕ) → i < count_of l.set → Aged (parts_of l.list) running i (get_or table.jobs i Closed) (get_or after.jobs i Closed)) → Advanced curve left rest →
-        Obeyed (laid_system l before curve) (table_state l table clock left) (tick (length bytes)) (ran (take l.processors bytes)) (table_state l after (clock + 1) rest)
-    tick_obeyed after rest bytes early room written whole whole' older advanced =
+        Obeyed (laid_system l before curve) (table_state l table clock left) (tick size) (ran bytes) (table_state l after (clock + 1) rest)
+    tick_obeyed after rest size bytes early room whole_answer written whole whole' older advanced =
         let sys = laid_system l before curve in
         let s = table_state l table clock left in
         let m = l.processors in
-        let said : take m bytes ≡ answer sys s = answer_equal sys s (take m bytes) (length-take-le m bytes room) (λ p h.
-        get_or-take m bytes p 255 h ∙ get_or_default bytes p 255 0 (omega arith) ∙ written p h ∙ runs before curve left clock ranked p h) in
-        obeyed_from sys s (table_state l after (clock + 1) rest) (tick (length bytes)) (ran (take m bytes))
-        (cond-false _ _ _ (lt-leb _ _ early) ∙ cond-false _ _ _ (le-ltb _ _ room) ∙ ap ran (sym said))
+        let said : take m running ≡ answer sys s = answer_equal sys s (take m running) (length-take-le m running whole_answer) (λ p h.
+        get_or-take m running p 255 h ∙ get_or_default running p 255 0 (omega arith) ∙ runs before curve left clock ranked p h) in
+        obeyed_from sys s (table_state l after (clock + 1) rest) (tick size) (ran bytes)
+        (cond-false _ _ _ (lt-leb _ _ early) ∙ cond-false _ _ _ (le-ltb _ _ room) ∙ ap ran (sym (written ∙ said)))
         (record {
           clock = refl;
           room = λ i L h o. let low : as_numbered i < 32 = omega arith in advanced (as_numbered i) L low o;

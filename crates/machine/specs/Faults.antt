@@ -1,13 +1,14 @@
 -- Each fault of a machine by layer, number and place.
 use Rattle.std.specs.Prelude.{ℕ}
+use Rattle.sheet.specs.declared.fault.Layer.TheVariants as Layers
 use Rattle.sheet.specs.declared.fault.Refusal.{Refusal}
 use Rattle.parts.specs.Faults as Plans
 use Rattle.machine.specs.declared.fault.MachineFault.{MachineFault}
 use Rattle.machine.specs.declared.fault.MachineFault.TheVariants.{Plan, Unknown, TooSoon, NoJob, WornOut, Cramped}
 
--- A refusal of layer M, the machine: 77 is the letter's code.
+-- A refusal of layer M, the machine.
 abbrev pub by_machine : ℕ → ℕ → Refusal
-by_machine number place = record { layer = 77; number = number; place = place }
+by_machine number place = record { layer = Layers.Machine; number = number; place = place }
 
 abbrev pub shown : MachineFault → Refusal
 shown (Plan p) = Plans.shown p

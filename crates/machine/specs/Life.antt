@@ -8,24 +8,26 @@ use Rattle.tasks.specs.declared.order.TaskKey.{TaskKey}
 use Rattle.plan.specs.Checks.{verdict}
 use Rattle.parts.specs.Parts.{parts_of}
 use Rattle.machine.specs.declared.Machine.{Machine}
-use Rattle.machine.specs.Layouts.{ByOrder}
-use Rattle.machine.specs.Meaning.{system_of, state_of}
+use Rattle.machine.specs.Meaning.{system_of, state_of, Ranked}
 
 -- Some calls from a start have this history, and leave this state.
 abbrev pub Lived : System → State → History → Type 0
 Lived sys s h = (cs : List Call) × (h ≡ history sys (started sys) cs) × Same sys s (state_after sys (started sys) cs)
 
 -- The machine has the ranks of its order, and has lived this history since its start.
-abbrev pub Lives : {O R : Type 0} → Machine O R → (TaskKey → TaskKey → Bool) → (ℕ → ℕ → ℕ) → (ℕ → ℕ → ℕ) → History → Type 0
-Lives m before curve left h = ByOrder m.layout before × Lived (system_of m before curve) (state_of m left) h
+abbrev pub Lives : {O R : Type 0} → Machine O R → (O → TaskKey → TaskKey → Bool) → (R → ℕ → ℕ → ℕ) → (R → ℕ → ℕ → ℕ) → History → Type 0
+Lives m before curve left h = Ranked m before × Lived (system_of m before curve) (state_of m left) h
 
 -- The check accepts the plan that the machine runs.
-abbrev pub Accepted : {O R : Type 0} → Machine O R → (TaskKey → TaskKey → Bool) → (ℕ → ℕ → ℕ) → Type 0
-Accepted m before curve = verdict m.layout.set m.layout.processors (parts_of m.layout.list) before curve ≡ None
+abbrev pub Accepted : {O R : Type 0} → Machine O R → (O → TaskKey → TaskKey → Bool) → (R → ℕ → ℕ → ℕ) → Type 0
+Accepted m before curve =
+    verdict m.dispatcher.layout.set m.dispatcher.layout.processors (parts_of m.dispatcher.layout.list) (before m.order) (curve m.rule) ≡ None
 
 -- A call goes on with the life of a machine: whatever it had lived, it has lived that and the call with its answer, and if its plan is
 -- accepted, then that history and each of its beginnings keep the promise.
-pub record LifeGoesOn {O R : Type 0} (old new : Machine O R) (old_before new_before : TaskKey → TaskKey → Bool) (old_curve new_curve old_left new_left : ℕ → ℕ → ℕ) (c : Call) (told : Answer) : Type 0 where
-  pub lives : (h : History) → Lives old old_before old_curve old_left h → Lives new new_before new_curve new_left (h ++ ((c, told) ∷ []))
-  pub kept : Accepted old old_before old_curve → (h : History) → Lives old old_before old_curve old_left h → KeptThroughout (system_of new new_before new_curve) (h ++ ((c, told) ∷ []))
-  pub accepted : Accepted old old_before old_curve → Accepted new new_before new_curve
+pub record LifeGoesOn {O R : Type 0} (old new : Machine O R) (before : O → TaskKey → TaskKey → Bool) (curve left : R → ℕ → ℕ → ℕ)
+    (c : Call) (told : Answer) : Type 0 where
+  pub lives : (h : History) → Lives old before curve left h → Lives new before curve left (h ++ ((c, told) ∷ []))
+  pub kept : Accepted old before curve → (h : History) → Lives old before curve left h →
+      KeptThroughout (system_of new before curve) (h ++ ((c, told) ∷ []))
+  pub accepted : Accepted old before curve → Accepted new before curve

@@ -46,6 +46,10 @@ placed_at ps k = record {
   next = next_part ps (part_at ps k).task (suc k);
 }
 
+-- Part k before the parts are linked.
+abbrev pub unlinked_at : List Part → ℕ → PlacedPart
+unlinked_at ps k = record (placed_at ps k) { next = None }
+
 -- A place that holds no part.
 abbrev pub unplaced : PlacedPart
 unplaced = record { processor = 0; cost = 0; begin = 0; end = 0; next = None }

@@ -5,7 +5,7 @@ ghost use Rattle.machine.specs.Faults.{shown};
 ghost use Rattle.machine.specs.declared.fault.MachineFault.TheVariants.{Plan};
 
 use parts::fault::PlanFault;
-use sheet::fault::Refusal;
+use sheet::fault::{Layer, Refusal};
 use std::fmt;
 
 // What a machine refuses (layer M), or what is wrong with the plan under it.
@@ -34,7 +34,7 @@ impl From<PlanFault> for MachineFault {
 }
 
 impl MachineFault {
-    // Layer, number and place of the fault.
+    // Layer, number and place of the fault. The place is widened by `as`: there is no From into u64 for a usize.
     pub fn refusal(&self) -> Refusal
         ensures { result ≡ shown self.now }
     {
@@ -47,18 +47,18 @@ impl MachineFault {
             MachineFault::Cramped { needed } => (17, needed),
         };
         Refusal {
-            layer: 'M',
+            layer: Layer::Machine,
             number,
             place: place as u64,
         }
     }
 }
 
+// By hand, since the Display that thiserror derives has no `output`, which says what is written.
 impl fmt::Display for MachineFault {
     ghost output = { λ f. Some (fault_line (shown f)) };
 
     fn fmt<W: fmt::Write>(&self, f: &mut fmt::Formatter<W>) -> fmt::Result {
-        let refusal = self.refusal();
-        write!(f, "{refusal}")
+        self.refusal().fmt(f)
     }
 }

@@ -1,4 +1,5 @@
 // The jobs of a machine, one record for each task.
+ghost use Rattle.std.specs.Prelude.{◌≡◌, replicate};
 
 // A job in one of its three states. Ages are counted in ticks from the release.
 #[derive(Clone, Copy)]
@@ -19,10 +20,21 @@ pub enum Event {
     Tick { ran: bool },
 }
 
-// One record for each of 32 tasks.
+// One record for each of 32 tasks: a plain struct inside the dispatcher, which changes it through `&mut self`.
 #[derive(Clone, Copy)]
 pub struct JobTable {
     pub(crate) jobs: [Job; 32],
+}
+
+impl JobTable {
+    // No job is open.
+    pub(crate) fn closed() -> JobTable
+        ensures { result.jobs ≡ replicate 32 Job.Closed }
+    {
+        JobTable {
+            jobs: [Job::Closed; 32],
+        }
+    }
 }
 
 mod steps;

@@ -1,30 +1,24 @@
 // The machine that runs a checked plan, tick by tick.
 #![tactic(auto)]
 
-ghost use Rattle.std.specs.Prelude.{◌≡◌, ℕ, ◌^◌, ◌≤◌, true, length, slice_index_or};
-ghost use Rattle.parts.specs.Parts.{parts_of};
-ghost use Rattle.machine.specs.Jobs.{fits};
-ghost use Rattle.machine.specs.declared.jobs.Job.TheVariants.{Closed};
+ghost use Rattle.std.specs.Prelude.{◌^◌, ◌≤◌};
 
-use crate::jobs::JobTable;
-use crate::layout::Layout;
+use crate::dispatcher::Dispatcher;
 
-// A machine that runs a plan: the plan laid out in time, the order and the arrival rule that it was checked under, the jobs and
-// the clock.
+// A machine that runs a plan: the plan laid out in time with its jobs, the order and the arrival rule that it was checked under,
+// and the clock. The type has no bounds, so that all may hold, stop and drop a machine; what is said of its order and its rule is
+// said by the contracts of its calls.
 #[derive(Drop)]
 pub struct Machine<O, R> {
-    layout: Layout,
+    dispatcher: Dispatcher,
     order: O,
     rule: R,
-    table: JobTable,
     clock: u64,
-    ghost whole: { length table.jobs ≡ 32 },
-    ghost fitting: { (i : ℕ) → fits (parts_of layout.list) (slice_index_or table.jobs i Closed) ≡ true },
     ghost early: { clock ≤ 2 ^ 40 },
 }
 
-mod answer;
 pub mod calls;
+mod dispatcher;
 pub mod fault;
 mod jobs;
 mod layout;

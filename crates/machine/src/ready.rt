@@ -1,50 +1,48 @@
 // Which jobs are ready, and which of them run.
-ghost use Rattle.std.specs.Prelude.{◌≡◌, ℕ, ◌<◌, true, length, slice_index, slice_index_or};
-ghost use Rattle.parts.specs.Parts.{parts_of};
-ghost use Rattle.machine.specs.Jobs.{fits};
+ghost use Rattle.std.specs.Int.Count.{count_trailing_zeros};
+ghost use Rattle.std.specs.Prelude.{◌≡◌, ℕ, ◌<◌, length, slice_index, slice_index_or};
 ghost use Rattle.machine.specs.Layouts.{table_word};
 ghost use Rattle.machine.specs.Meaning.{Runs};
-ghost use Rattle.machine.specs.declared.jobs.Job.TheVariants.{Closed};
 
-use crate::jobs::{Job, JobTable};
-use crate::layout::Layout;
-use tasks::set::MAX_TASKS;
+use crate::dispatcher::Dispatcher;
+use crate::jobs::Job;
 
-// What a processor that runs nothing answers.
+// What a processor that runs nothing answers. No Option stands for it inside, since a tick writes these very bytes out.
 const IDLE: u8 = 255;
 
-// The ready words of all processors, in one pass over the tasks: bit r is set where the task of rank r is ready there.
-pub(crate) fn ready_words(layout: &Layout, table: &JobTable) -> [u32; 8]
-    requires whole { length table.now.jobs ≡ 32 }
-    requires fitting { (i : ℕ) → fits (parts_of layout.now.list) (slice_index_or table.now.jobs i Closed) ≡ true }
-    ensures whole { length result ≡ 8 }
-    ensures value { (p : ℕ) → p < 8 → slice_index result p ≡ table_word layout.now table.now p }
-{
-    let mut words = [0u32; 8];
-    for task in 0..layout.set.count() {
-        let job = table.jobs[task];
-        if let Job::Ready { part, .. } = job {
-            let processor = layout.placed[part].processor as usize;
-            words[processor] |= 1u32 << layout.ranks[task];
+impl Dispatcher {
+    // The ready words of all processors, in one pass over the tasks: bit r is set where the task of rank r is ready there.
+    pub(crate) fn ready_words(&self) -> [u32; 8]
+        ensures whole { length result ≡ 8 }
+        ensures value { (p : ℕ) → p < 8 → slice_index result p ≡ table_word self.now.layout self.now.table p }
+    {
+        let mut words = [0u32; 8];
+        for (task, job) in self.table.jobs[..self.layout.set.count()]
+            .iter()
+            .enumerate()
+        {
+            if let Job::Ready { part, .. } = *job {
+                let processor = usize::from(self.layout.placed[part].processor);
+                words[processor] |= 1u32 << self.layout.ranks[task];
+            }
         }
+        words
     }
-    words
-}
 
-// The task that each processor runs: of those ready there, the one of lowest rank.
-pub(crate) fn running_tasks(layout: &Layout, table: &JobTable) -> [u8; 8]
-    requires whole { length table.now.jobs ≡ 32 }
-    requires fitting { (i : ℕ) → fits (parts_of layout.now.list) (slice_index_or table.now.jobs i Closed) ≡ true }
-    ensures whole { length result ≡ 8 }
-    ensures value { Runs layout.now table.now result }
-{
-    let words = ready_words(layout, table);
-    let mut running = [IDLE; 8];
-    for processor in 0..layout.processors {
-        let rank = words[processor].trailing_zeros() as usize;
-        if rank < MAX_TASKS {
-            running[processor] = layout.by_rank[rank] as u8;
-        }
+    // The task of the lowest rank in a ready word, which a processor of that word runs.
+    fn first_in(&self, word: u32) -> u8
+        ensures { result ≡ slice_index_or self.now.layout.by_rank (count_trailing_zeros 32 word) 255 }
+    {
+        // `as`: there is no From into usize for a u32
+        let rank = word.trailing_zeros() as usize;
+        self.layout.by_rank.get(rank).copied().unwrap_or(IDLE)
     }
-    running
+
+    // The task that each processor runs: of those ready there, the one of lowest rank.
+    pub(crate) fn running_tasks(&self) -> [u8; 8]
+        ensures whole { length result ≡ 8 }
+        ensures value { Runs self.now.layout self.now.table result }
+    {
+        self.ready_words().map(|word| self.first_in(word))
+    }
 }

@@ -10,7 +10,8 @@ use std::test::Fail;
 use tasks::rate_monotonic::RateMonotonic;
 use tasks::set::TaskSet;
 
-// Periods 10 and 16, costs 5 and 6, each task whole on the one processor.
+// Periods 10 and 16, costs 5 and 6, each task whole on the one processor. The tests of `vectors` make the same machine: what
+// stands under `cfg(test)` is of one crate alone.
 fn two_tasks() -> Result<Machine<RateMonotonic, Spaced>, Fail> {
     let set = TaskSet::new(&[10, 16], &[5, 6])?;
     let first = Part {

@@ -1,13 +1,14 @@
 -- Each fault of a plan by layer, number and place.
 use Rattle.std.specs.Prelude.{ℕ}
+use Rattle.sheet.specs.declared.fault.Layer.TheVariants as Layers
 use Rattle.sheet.specs.declared.fault.Refusal.{Refusal}
 use Rattle.tasks.specs.Faults as Sets
 use Rattle.parts.specs.declared.fault.PlanFault.{PlanFault}
 use Rattle.parts.specs.declared.fault.PlanFault.TheVariants.{Set, OffScale, Stranger, Twin, Miscount, Overlap, Late, Unplaced, Squeezed, Cramped}
 
--- A refusal of layer K, the plan: 75 is the letter's code.
+-- A refusal of layer K, the plan.
 abbrev pub by_plan : ℕ → ℕ → Refusal
-by_plan number place = record { layer = 75; number = number; place = place }
+by_plan number place = record { layer = Layers.Plan; number = number; place = place }
 
 abbrev pub shown : PlanFault → Refusal
 shown (Set s) = Sets.shown s

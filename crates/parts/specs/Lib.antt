@@ -1,2 +1,3 @@
+pub mod Fixed
 pub mod Faults
 pub mod Parts

@@ -1,14 +1,19 @@
 -- The parts of a plan as a list.
-use Rattle.std.specs.Prelude.{◌≡◌, ℕ, zero, suc, Bool, ◌||◌, List, [], ◌∷◌, length, take, Ok, Err, Result, ◌==◌, nat_lt}
+use Rattle.std.specs.Prelude.{◌≡◌, ℕ, zero, suc, Bool, ◌||◌, List, [], ◌∷◌, length, Ok, Err, Result, ◌==◌, nat_lt}
 use Rattle.schedule.specs.declared.Part.{Part}
 use Rattle.parts.specs.declared.fault.PlanFault.{PlanFault}
 use Rattle.parts.specs.declared.fault.PlanFault.TheVariants.{OffScale}
-use Rattle.parts.specs.declared.lists.PartList.{PartList}
+use Rattle.parts.specs.Fixed.{elements}
+use Rattle.parts.specs.declared.fixed.FixedList.{FixedList}
 use Rattle.parts.specs.declared.lists.Proposal.{Proposal}
+
+-- A list of up to 64 parts.
+abbrev pub PartList : Type 0
+PartList = FixedList Part 64
 
 -- The parts that a list holds, in their order.
 abbrev pub parts_of : PartList → List Part
-parts_of l = take l.count l.parts
+parts_of l = elements l
 
 -- The parts of a proposal, in their order.
 abbrev pub plan_of : Proposal → List Part

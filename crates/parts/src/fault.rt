@@ -4,7 +4,7 @@ ghost use Rattle.sheet.specs.Faults.{fault_line};
 ghost use Rattle.parts.specs.Faults.{shown};
 ghost use Rattle.parts.specs.declared.fault.PlanFault.TheVariants.{Set};
 
-use sheet::fault::Refusal;
+use sheet::fault::{Layer, Refusal};
 use std::fmt;
 use tasks::fault::SetFault;
 
@@ -42,7 +42,7 @@ impl From<SetFault> for PlanFault {
 }
 
 impl PlanFault {
-    // Layer, number and place of the fault.
+    // Layer, number and place of the fault. The place is widened by `as`: there is no From into u64 for a usize.
     pub fn refusal(&self) -> Refusal
         ensures { result ≡ shown self.now }
     {
@@ -59,7 +59,7 @@ impl PlanFault {
             PlanFault::Cramped { needed } => (17, needed),
         };
         Refusal {
-            layer: 'K',
+            layer: Layer::Plan,
             number,
             place: place as u64,
         }
@@ -70,7 +70,6 @@ impl fmt::Display for PlanFault {
     ghost output = { λ f. Some (fault_line (shown f)) };
 
     fn fmt<W: fmt::Write>(&self, f: &mut fmt::Formatter<W>) -> fmt::Result {
-        let refusal = self.refusal();
-        write!(f, "{refusal}")
+        self.refusal().fmt(f)
     }
 }

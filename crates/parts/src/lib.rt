@@ -2,4 +2,5 @@
 #![tactic(auto)]
 
 pub mod fault;
+pub mod fixed;
 pub mod lists;

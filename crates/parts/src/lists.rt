@@ -1,6 +1,7 @@
 // The parts of a plan, and a plan that has not been checked.
-ghost use Rattle.std.specs.Prelude.{◌≡◌, ◌≤◌, length};
+ghost use Rattle.std.specs.Prelude.{◌≡◌, ◌≤◌};
 
+use crate::fixed::FixedList;
 use schedule::Part;
 
 // The most parts of a plan, and the most processors that it is for.
@@ -9,13 +10,7 @@ pub const MAX_PARTS: usize = 64;
 pub const MAX_PROCESSORS: usize = 8;
 
 // Up to 64 parts, in the order in which they were listed.
-#[derive(Clone, Copy)]
-pub struct PartList {
-    parts: [Part; 64],
-    count: usize,
-    ghost sized: { length parts ≡ 64 },
-    ghost few: { count ≤ 64 },
-}
+pub type PartList = FixedList<Part, MAX_PARTS>;
 
 // A plan that has not been checked: 1 to 64 parts, whose numbers may be off every scale. It cannot be let go: the check uses it
 // up, or it is given up.

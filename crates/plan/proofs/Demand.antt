@@ -1,6 +1,6 @@
 -- The demand on a processor never falls as the stretch grows, and a stretch of t ticks admits at most t releases.
 use Rattle.std.proofs.Common.{◌≡◌, ℕ, zero, suc, ◌+◌, ◌*◌, ◌<◌, ◌≤◌, true, false, cond, Some, None, ap, inl, inr, mul-le-mul_right, arith}
-use Rattle.std.proofs.lemmas.Bool.{cases_lt, le-leb, lt-leb, cond-true, and_from, eq-eqb}
+use Rattle.std.proofs.lemmas.Bool.{cases_lt, le-leb, lt-leb}
 use Rattle.schedule.specs.declared.Part.{Part}
 use Rattle.schedule.specs.Curves.{Curve}
 use Rattle.schedule.specs.Layout.{System, demand, interferes}
@@ -15,11 +15,6 @@ curve_most f law zero = omega (arith, law.none)
 curve_most f law (suc a) =
     let e : f (suc a) ≡ f (a + 1) = ap f (omega arith) in
     omega (arith, curve_most f law a, (law.steps a).1)
-
--- A part on the same processor whose task goes before adds its cost for each release.
-pub share_ahead : (sys : System) (q p : Part) (t : ℕ) → p.processor ≡ q.processor → sys.before p.task q.task ≡ true →
-    share sys q t p ≡ sys.curve p.task t * p.cost
-share_ahead sys q p t same first = cond-true _ _ _ (and_from _ _ (eq-eqb _ _ same) first)
 
 -- A curve at a length that the question tells apart, times a cost below 2^32.
 pub share_bound : (f : ℕ → ℕ) → Curve f → (L cost r : ℕ) → L ≤ 1000000 → cost < 4294967296 → r ≡ f L → r * cost ≤ 4294967296000000

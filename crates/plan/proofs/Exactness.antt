@@ -19,10 +19,11 @@ use Rattle.parts.specs.Faults.{shown}
 use Rattle.plan.specs.Systems.{system}
 use Rattle.tasks.specs.Orders.{LawfulOrder}
 use Rattle.plan.proofs.Verdicts.{LawfulCurves, laid_out, in_time, not_late}
+use Rattle.sheet.specs.declared.fault.Layer.TheVariants as Layers
 
 -- A refusal with number 10 of layer K.
 abbrev AsLate : Result ℕ PlanFault → Type 0
-AsLate r = (f : PlanFault) × (r ≡ Err f) × ((shown f).layer ≡ 75) × ((shown f).number ≡ 10)
+AsLate r = (f : PlanFault) × (r ≡ Err f) × ((shown f).layer ≡ Layers.Plan) × ((shown f).number ≡ 10)
 
 -- A buffer that is too short is no refusal as late.
 cramped_not_late : (b : Bool) (n : ℕ) → AsLate (refused_or (then_some b (Cramped n)) n) → ⊥
@@ -68,3 +69,7 @@ module _ (set : TaskSet) (m : ℕ) (ps : List Part) (before : TaskKey → TaskKe
       let split = by_late room (first_where (late sys) (length ps)) refl passes sub in
       subst (λ (o : Option PlanFault). (AsLate (refused_or (option_or (option_or o (late_fault set m ps before curve)) (then_some (ltb room (length ps)) (Cramped (length ps)))) (length ps)) → CanBeLate set m ps before curve)
       × (CanBeLate set m ps before curve → AsLate (refused_or (option_or (option_or o (late_fault set m ps before curve)) (then_some (ltb room (length ps)) (Cramped (length ps)))) (length ps)))) (sym passes) split
+
+  -- The same of an answer that is the check's.
+  pub exact_answer : (room : ℕ) (r : Result ℕ PlanFault) → r ≡ check_answer set m ps before curve room → ExactlyLate set m ps before curve r
+  exact_answer room r e = subst (ExactlyLate set m ps before curve) (sym e) (exactly_late room)

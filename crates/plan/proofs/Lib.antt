@@ -1,7 +1,9 @@
 pub mod Demand
 pub mod Exactness
+pub mod Judging
 pub mod Passing
+pub mod Places
 pub mod Spans
+pub mod Timing
 pub mod Totals
 pub mod Verdicts
-pub mod Writing

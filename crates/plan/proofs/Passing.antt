@@ -2,13 +2,13 @@
 use Rattle.std.proofs.Common.{◌≡◌, ℕ, ◌<◌, ◌≤◌, Bool, true, false, not, eqb, ltb, leb, List, length, is_some, Some, None, Option, refl, arith}
 use Rattle.std.specs.Option.{option_or, option_map}
 use Rattle.std.specs.Bool.{then_some}
-use Rattle.std.proofs.lemmas.Bool.{or_parts, and_parts, not-false, leb-true, leb-false, ltb-false, eqb-true, eqb-false, eq-eqb, and_from, both_ways}
+use Rattle.std.proofs.lemmas.Bool.{or_parts, and_parts, not-false, not-true, leb-true, leb-false, ltb-false, eqb-true, eqb-false, eq-eqb, and_from, both_ways}
 use Rattle.schedule.specs.declared.Part.{Part}
 use Rattle.schedule.specs.Layout.{work_of}
 use Rattle.tasks.specs.Sets.{on_scale, count_of, cost_of}
 use Rattle.tasks.specs.declared.set.TaskSet.{TaskSet}
 use Rattle.tasks.proofs.Searches.{none_where}
-use Rattle.plan.specs.Checks.{part_at, off_scale, stranger, same_place, twin, miscount, number_fault}
+use Rattle.plan.specs.Checks.{part_at, off_scale, stranger, same_place, twin, miscount, number_fault, numbers_pass}
 
 -- Where nothing is wrong, neither of two checks finds anything.
 pub or_none : {A : Type 0} (a b : Option A) → option_or a b ≡ None → (a ≡ None) × (b ≡ None)
@@ -76,3 +76,7 @@ passed set m ps e =
           (and_from _ _ (eq-eqb _ _ same_task) (eq-eqb _ _ same_proc));
       summed = λ i h. eqb-true _ _ (not-false _ (counted i h));
     }
+
+-- The same, where a test says that they pass.
+pub passing : (set : TaskSet) (m : ℕ) (ps : List Part) → numbers_pass set m ps ≡ true → Passed set m ps
+passing set m ps e = passed set m ps (is_none (number_fault set m ps) (not-true _ e))

@@ -1,6 +1,6 @@
 -- What the check answers and leaves.
-use Rattle.std.specs.Prelude.{◌≡◌, ℕ, ◌<◌, Bool, List, ◌++◌, length, drop, Some, None, Ok, Err, Option, Result, nat_lt, slice_index}
-use Rattle.std.specs.Option.{option_or, unwrap_or}
+use Rattle.std.specs.Prelude.{◌≡◌, ℕ, ◌<◌, Bool, List, ◌++◌, length, drop, Some, None, Ok, Err, Option, Result, nat_lt}
+use Rattle.std.specs.Option.{option_or, option_map}
 use Rattle.std.specs.Bool.{then_some}
 use Rattle.schedule.specs.declared.Part.{Part}
 use Rattle.schedule.specs.Curves.{Subadditive}
@@ -12,21 +12,21 @@ use Rattle.tasks.specs.Sets.{count_of}
 use Rattle.tasks.specs.declared.order.TaskKey.{TaskKey}
 use Rattle.tasks.specs.declared.set.TaskSet.{TaskSet}
 use Rattle.parts.specs.declared.fault.PlanFault.{PlanFault}
-use Rattle.parts.specs.declared.fault.PlanFault.TheVariants.{Cramped}
-use Rattle.plan.specs.Checks.{part_at, late, response_times, earlier_fault, verdict}
+use Rattle.parts.specs.declared.fault.PlanFault.TheVariants.{Late, Cramped}
+use Rattle.plan.specs.Checks.{late, response_times, earlier_fault, verdict}
 use Rattle.parts.specs.Faults.{shown}
-use Rattle.plan.specs.Responses.{response_within}
+use Rattle.parts.specs.Fixed.{elements}
+use Rattle.parts.specs.declared.fixed.FixedList.{FixedList}
 use Rattle.plan.specs.Systems.{system}
+use Rattle.sheet.specs.declared.fault.Layer.TheVariants as Layers
 
--- What comes of looking for all response times: the first part that has none, or each part's, in an array of 64.
-abbrev pub Timed : System → List Part → Result (List ℕ) ℕ → Type 0
-Timed sys ps (Err k) = first_where (late sys) (length ps) ≡ Some k
-Timed sys ps (Ok times) =
-    (first_where (late sys) (length ps) ≡ None) × (length times ≡ 64)
-    × ((k : ℕ) → k < length ps → slice_index times k ≡ unwrap_or (response_within sys (part_at ps k) (part_at ps k).window) 0)
+-- What comes of looking for all response times: the first part that has none is late, or the list of all.
+abbrev pub Timed : System → List Part → Result (FixedList ℕ 64) PlanFault → Type 0
+Timed sys ps (Err f) = option_map Late (first_where (late sys) (length ps)) ≡ Some f
+Timed sys ps (Ok times) = (first_where (late sys) (length ps) ≡ None) × (elements times ≡ response_times sys ps)
 
 -- What judging a plan gives where there is room for so many response times: the first fault, or each part's response time.
-abbrev pub Judged : Option PlanFault → System → List Part → Result (List ℕ) PlanFault → Type 0
+abbrev pub Judged : Option PlanFault → System → List Part → Result (FixedList ℕ 64) PlanFault → Type 0
 Judged fault sys ps (Err f) = fault ≡ Some f
 Judged fault sys ps (Ok times) = (fault ≡ None) × Timed sys ps (Ok times)
 
@@ -58,5 +58,5 @@ module _ (set : TaskSet) (m : ℕ) (ps : List Part) (before : TaskKey → TaskKe
   abbrev pub ExactlyLate : Result ℕ PlanFault → Type 0
   ExactlyLate r =
       earlier_fault set m ps before curve ≡ None → ((i : ℕ) → i < count_of set → Subadditive (curve i)) →
-      (((f : PlanFault) × (r ≡ Err f) × ((shown f).layer ≡ 75) × ((shown f).number ≡ 10)) → CanBeLate)
-      × (CanBeLate → (f : PlanFault) × (r ≡ Err f) × ((shown f).layer ≡ 75) × ((shown f).number ≡ 10))
+      (((f : PlanFault) × (r ≡ Err f) × ((shown f).layer ≡ Layers.Plan) × ((shown f).number ≡ 10)) → CanBeLate)
+      × (CanBeLate → (f : PlanFault) × (r ≡ Err f) × ((shown f).layer ≡ Layers.Plan) × ((shown f).number ≡ 10))

@@ -3,10 +3,12 @@ ghost use Rattle.std.specs.Prelude.{◌≡◌, ◌*◌, ◌<◌, ◌≤◌, leng
 ghost use Rattle.schedule.specs.Layout.{span_of, work_of};
 ghost use Rattle.tasks.specs.Searches.{first_where};
 ghost use Rattle.tasks.specs.Sets.{count_of};
-ghost use Rattle.plan.specs.Checks.{off_scale, stranger, twin, same_place, miscount, number_fault};
+ghost use Rattle.plan.specs.Answers.{refused_or};
+ghost use Rattle.plan.specs.Checks.{off_scale, stranger, twin, miscount, number_fault};
 ghost use Rattle.parts.specs.Parts.{parts_of};
 
 use parts::fault::PlanFault;
+// callers name it by this path
 pub use parts::lists::MAX_PROCESSORS;
 use parts::lists::PartList;
 use schedule::Part;
@@ -26,127 +28,85 @@ pub fn sums(list: &PartList, task: usize) -> TaskSums
     ensures cost { result.cost ≡ work_of (parts_of list.now) task }
     ensures window { result.window ≡ span_of (parts_of list.now) task }
 {
-    let mut cost = 0;
-    let mut window = 0;
+    let mut sums = TaskSums { cost: 0, window: 0 };
+    // a `for` with two sums: the project sums the costs and windows of a task in one loop over the plan's parts
     for part in list.as_slice() {
-        if part.task as usize == task {
-            cost += part.cost as u64;
-            window += part.window as u64;
+        if usize::from(part.task) == task {
+            let Part { cost, window, .. } = *part;
+            sums.cost += u64::from(cost);
+            sums.window += u64::from(window);
         }
     }
-    TaskSums { cost, window }
+    sums
 }
 
-fn is_off_scale(parts: &[Part], index: usize) -> bool
-    requires { index < length parts.now }
-    ensures { result ≡ off_scale parts.now index }
+// The first part whose cost or window is outside its limits.
+fn first_off_scale(parts: &[Part]) -> Option<usize>
+    ensures { result ≡ first_where (off_scale parts.now) (length parts.now) }
 {
-    !is_on_scale(parts[index].cost) || !is_on_scale(parts[index].window)
+    parts.iter().position(|part| !is_on_scale(part.cost) || !is_on_scale(part.window))
 }
 
-fn is_stranger(set: &TaskSet, processors: usize, parts: &[Part], index: usize) -> bool
-    requires { index < length parts.now }
-    ensures { result ≡ stranger set.now processors parts.now index }
+// The first part that names a task or a processor that there is not.
+fn first_stranger(set: &TaskSet, processors: usize, parts: &[Part]) -> Option<usize>
+    ensures { result ≡ first_where (stranger set.now processors parts.now) (length parts.now) }
 {
-    let part = parts[index];
-    set.count() <= part.task as usize || processors <= part.processor as usize
+    parts.iter().position(|part| {
+        set.count() <= usize::from(part.task) || processors <= usize::from(part.processor)
+    })
 }
 
-fn in_same_place(first: Part, second: Part) -> bool
-    ensures { result ≡ same_place first second }
-{
-    first.task == second.task && first.processor == second.processor
-}
-
+// Whether an earlier part is of the task of the part at `index` and on its processor.
 fn is_twin(parts: &[Part], index: usize) -> bool
     requires { index < length parts.now }
     ensures { result ≡ twin parts.now index }
 {
-    let part = parts[index];
-    for earlier in 0..index {
-        if in_same_place(parts[earlier], part) {
-            return true;
-        }
-    }
-    false
+    let place = (parts[index].task, parts[index].processor);
+    parts[..index]
+        .iter()
+        .any(|earlier| (earlier.task, earlier.processor) == place)
 }
 
-fn is_miscounted(set: &TaskSet, list: &PartList, task: usize) -> bool
-    ensures { result ≡ miscount set.now (parts_of list.now) task }
-{
-    sums(list, task).cost != set.cost(task) as u64
-}
-
-fn first_off_scale(parts: &[Part]) -> Option<usize>
-    ensures { result ≡ first_where (off_scale parts.now) (length parts.now) }
-{
-    for index in 0..parts.len() {
-        if is_off_scale(parts, index) {
-            return Some(index);
-        }
-    }
-    None
-}
-
-fn first_stranger(set: &TaskSet, processors: usize, parts: &[Part]) -> Option<usize>
-    ensures { result ≡ first_where (stranger set.now processors parts.now) (length parts.now) }
-{
-    for index in 0..parts.len() {
-        if is_stranger(set, processors, parts, index) {
-            return Some(index);
-        }
-    }
-    None
-}
-
+// The first part that has such a twin.
 fn first_twin(parts: &[Part]) -> Option<usize>
     ensures { result ≡ first_where (twin parts.now) (length parts.now) }
 {
-    for index in 0..parts.len() {
-        if is_twin(parts, index) {
-            return Some(index);
-        }
-    }
-    None
+    (0..parts.len()).find(|index| is_twin(parts, *index))
 }
 
+// The first task whose cost is not what the costs of its parts add up to.
 fn first_miscount(set: &TaskSet, list: &PartList) -> Option<usize>
     ensures { result ≡ first_where (miscount set.now (parts_of list.now)) (count_of set.now) }
 {
-    for task in 0..set.count() {
-        if is_miscounted(set, list, task) {
-            return Some(task);
-        }
-    }
-    None
+    (0..set.count()).find(|task| sums(list, *task).cost != u64::from(set.cost(*task)))
 }
 
 // What is wrong with the numbers of a plan, the first check that finds something first.
-pub(crate) fn fault_of_numbers(
+pub(crate) fn check_numbers(
     set: &TaskSet,
     processors: usize,
     list: &PartList,
-) -> Option<PlanFault>
-    ensures { result ≡ number_fault set.now processors (parts_of list.now) }
+) -> Result<(), PlanFault>
+    ensures { result ≡ refused_or (number_fault set.now processors (parts_of list.now)) tt }
 {
     if processors == 0 || processors > MAX_PROCESSORS {
-        return Some(PlanFault::Set(SetFault::OffScale { task: 0 }));
+        return Err(PlanFault::from(SetFault::OffScale { task: 0 }));
     }
     let parts = list.as_slice();
-    if parts.len() == 0 {
-        return Some(PlanFault::OffScale { part: 0 });
+    if parts.is_empty() {
+        return Err(PlanFault::OffScale { part: 0 });
     }
     if let Some(part) = first_off_scale(parts) {
-        return Some(PlanFault::OffScale { part });
+        return Err(PlanFault::OffScale { part });
     }
     if let Some(part) = first_stranger(set, processors, parts) {
-        return Some(PlanFault::Stranger { part });
+        return Err(PlanFault::Stranger { part });
     }
     if let Some(part) = first_twin(parts) {
-        return Some(PlanFault::Twin { part });
+        return Err(PlanFault::Twin { part });
     }
     if let Some(task) = first_miscount(set, list) {
-        return Some(PlanFault::Miscount { task });
+        return Err(PlanFault::Miscount { task });
     }
-    None
+    Ok(())
 }

@@ -40,9 +40,9 @@ fn plan_sheet(bytes: &[u8], out: &mut [u8]) -> Result<usize, PlanFault>
 
 fn main(rt: HostRuntime) -> io::Result<()> {
     let mut input = [0; KEPT];
-    let read = read_input(&rt, &mut input)?;
+    let bytes = read_input(&rt, &mut input)?;
     let mut out = [0; ROOM];
-    match plan_sheet(&input[0..read], &mut out) {
+    match plan_sheet(bytes, &mut out) {
         Ok(written) => rt.stdout().write_all(&out[0..written]),
         Err(fault) => println!(rt; "{fault}"),
     }

@@ -1,5 +1,6 @@
 pub mod Joins
 pub mod Pacing
+pub mod Regulators
 pub mod Spacing
 pub mod Tokens
 pub mod Buckets

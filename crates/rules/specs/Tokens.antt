@@ -1,5 +1,5 @@
 -- The curve of a token bucket, and what is left of it.
-use Rattle.std.specs.Prelude.{◌≡◌, ℕ, ◌+◌, ◌-◌, ◌/◌, ◌≤◌, min, Bool, cond}
+use Rattle.std.specs.Prelude.{ℕ, ◌+◌, ◌-◌, ◌/◌, min, Bool, cond}
 use Rattle.rules.specs.declared.tokens.Tokens.{Tokens}
 
 -- In L ticks a full bucket gives its tokens and those that return, but no more than one in each tick.
@@ -16,23 +16,3 @@ tokens_curve t L = full_curve t.size t.refill L
 
 abbrev pub tokens_left : Tokens → ℕ → ℕ
 tokens_left t L = rest_curve t.refill t.held t.due t.gave L
-
--- The curve of the bucket has not changed.
-abbrev pub SameTokens : Tokens → Tokens → Type 0
-SameTokens old new = (L : ℕ) → tokens_curve new L ≡ tokens_curve old L
-
--- What is left of the bucket in each number of ticks.
-abbrev pub Leaves : (ℕ → ℕ) → Tokens → Type 0
-Leaves left new = (L : ℕ) → 1 ≤ L → tokens_left new L ≡ left L
-
--- The bucket has been filled.
-abbrev pub Refilled : Tokens → Tokens → Type 0
-Refilled old new = SameTokens old new × Leaves (tokens_curve old) new
-
--- Where the bucket has given a token, what is left of it has fallen by 1; else it has not changed.
-abbrev pub Taken : Bool → Tokens → Tokens → Type 0
-Taken given old new = Leaves (λ L. cond given (tokens_left old L - 1) (tokens_left old L)) new
-
--- A tick has passed for the bucket.
-abbrev pub Ticked : Tokens → Tokens → Type 0
-Ticked old new = SameTokens old new × Leaves (λ L. min (tokens_left old (L + 1)) (tokens_curve old L)) new

@@ -23,6 +23,7 @@ impl<A, B> Both<A, B> {
     }
 }
 
+// A maker of its own beside `new`, which asks no bounds of its callers: the laws below speak of two rules.
 impl<A: ArrivalRule, B: ArrivalRule> Both<A, B> {
     // The two rules joined. Where both have paced curves, the joined curves are paced again, and subadditive.
     pub fn join(first: A, second: B) -> Both<A, B>

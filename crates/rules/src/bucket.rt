@@ -1,13 +1,8 @@
 // Token buckets: the releases of a task come in bursts of limited size.
-ghost use Rattle.std.specs.Prelude.{◌≡◌, length};
-
+use crate::per_task::PerTask;
 use crate::tokens::Tokens;
 
 // A token bucket for each task number.
-#[derive(Clone, Copy)]
-pub struct Bucket {
-    buckets: [Tokens; 32],
-    ghost wide: { length buckets ≡ 32 },
-}
+pub type Bucket = PerTask<Tokens>;
 
 pub mod rule;

@@ -1,14 +1,17 @@
 // Spaced arrivals: the releases of a task are at least its period apart.
-ghost use Rattle.std.specs.Prelude.{◌≡◌, ℕ, ◌<◌, ◌≤◌, length, slice_index};
+ghost use Rattle.std.specs.Prelude.{◌≤◌};
 
-// For each task its period and how many ticks it has to wait until it is open again.
+use crate::per_task::PerTask;
+
+// The period by which the releases of a task are apart, and how many ticks it has to wait until it is open again.
 #[derive(Clone, Copy)]
-pub struct Spaced {
-    periods: [u32; 32],
-    waits: [u32; 32],
-    ghost wide: { length periods ≡ 32 },
-    ghost deep: { length waits ≡ 32 },
-    ghost lasting: { (i : ℕ) → i < 32 → 1 ≤ slice_index periods i },
+pub struct Gap {
+    period: u32,
+    wait: u32,
+    ghost lasting: { 1 ≤ period },
 }
+
+// A gap between the releases of each task.
+pub type Spaced = PerTask<Gap>;
 
 pub mod rule;

@@ -3,7 +3,7 @@ use Rattle.std.proofs.Common.{◌≡◌, ℕ, zero, suc, ◌+◌, ◌-◌, ◌*�
 use native.Mathlib.Nat.{pow-le-pow_right}
 use Rattle.std.proofs.lemmas.Fmt.{AppendsLastDigit, decimal_from_appends, decimal_by_steps, decimal_digit, decimal_step, length-decimal-le, decimal_nonempty}
 use Rattle.std.proofs.lemmas.List.{append_assoc, length-append}
-use Rattle.std.proofs.lemmas.Bool.{cond-true, cond-false, le-ltb, eqb-true, lt-ltb, eq-eqb, cases_Bool}
+use Rattle.std.proofs.lemmas.Bool.{cond-true, cond-false, and_from, le-leb, le-ltb, eqb-true, lt-ltb, eq-eqb, cases_Bool}
 use Rattle.std.proofs.lemmas.Bool.Decides.{nat_tests}
 use Rattle.sheet.specs.declared.symbol.Limits.{Limits}
 use Rattle.sheet.specs.declared.symbol.Stop.{Stop}
@@ -22,14 +22,6 @@ spells =
 -- The text of a number is its decimal digits, as they are printed everywhere.
 pub numeral_decimal : (n : ℕ) → n < 1000000 → numeral n ≡ decimal n
 numeral_decimal n h = decimal_from_appends digits_up_to spells 6 n (omega arith) (length-decimal-le 6 n (omega arith) (omega arith) (omega arith))
-
-pub numeral_digit : (n : ℕ) → n < 10 → numeral n ≡ (48 + n) ∷ []
-numeral_digit n h = numeral_decimal n (omega arith) ∙ decimal_digit n h
-
-pub numeral_step : (n : ℕ) → 10 ≤ n → n < 1000000 → numeral n ≡ numeral (n / 10) ++ ((48 + n % 10) ∷ [])
-numeral_step n h k =
-    let s : n / 10 < 1000000 = omega arith in
-    numeral_decimal n k ∙ decimal_step n h (omega arith) ∙ ap (λ (z : List ℕ). z ++ ((48 + n % 10) ∷ [])) (sym (numeral_decimal (n / 10) s))
 
 pub numeral_short : (k n : ℕ) → 0 < k → n < 10 ^ k → n < 1000000 → length (numeral n) ≤ k
 numeral_short k n h l m = omega (arith, ap length (numeral_decimal n m), length-decimal-le k n h l (omega arith))
@@ -55,26 +47,13 @@ digit_symbol d digits value h m =
     let e : 48 + d - 48 ≡ d = omega arith in
     cond-true (leb 48 (48 + d) && leb (48 + d) 57 && more digits value) _ _ (digit_class d (more digits value) h m) ∙ ap Symbols.Digit e
 
--- The symbol that a stop is.
-abbrev stop_symbol : Stop → Symbol
-stop_symbol Stops.Slash = Symbols.Slash
-stop_symbol Stops.Space = Symbols.Space
-stop_symbol Stops.LineFeed = Symbols.LineFeed
-
-stop_here : (s : Stop) (digits value : ℕ) → 1 ≤ digits → symbol_of (stop_byte s) digits value ≡ stop_symbol s
+stop_here : (s : Stop) (digits value : ℕ) → 1 ≤ digits → symbol_of (stop_byte s) digits value ≡ Symbols.Stop s
 stop_here Stops.Slash digits value h = cond-true (ltb 0 digits) _ _ (lt-ltb 0 digits h)
 stop_here Stops.Space digits value h = cond-true (ltb 0 digits) _ _ (lt-ltb 0 digits h)
 stop_here Stops.LineFeed digits value h = cond-true (ltb 0 digits) _ _ (lt-ltb 0 digits h)
 
-stops_own : (s : Stop) → true ≡ stops s (stop_symbol s)
-stops_own Stops.Slash = refl
-stops_own Stops.Space = refl
-stops_own Stops.LineFeed = refl
-
-by_stop : {A : Type 0} (s : Stop) (go : ℕ → A) (st : Symbol → A) → by_symbol (stop_symbol s) go st ≡ st (stop_symbol s)
-by_stop Stops.Slash go st = refl
-by_stop Stops.Space go st = refl
-by_stop Stops.LineFeed go st = refl
+stops_own : (s : Stop) → true ≡ stops s (Symbols.Stop s)
+stops_own s = sym (eq-eqb (stop_byte s) (stop_byte s) refl)
 
 module _ (l : Limits) (s : Stop) (first : ℕ) where
   -- A number ends at its stop.
@@ -83,7 +62,7 @@ module _ (l : Limits) (s : Stop) (first : ℕ) where
   ends_at_stop digits value at rest h lo hi =
       ap (λ (y : Symbol). by_symbol y (λ d. number_on l s first (digits + 1) (value * 10 + d) (at + 1) rest)
       (λ y. stopped l s y first value at (stop_byte s ∷ rest))) (stop_here s digits value h)
-      ∙ by_stop s _ _ ∙ on_scale l s (stop_symbol s) first value at (stop_byte s ∷ rest) (stops_own s) lo hi
+      ∙ on_scale l s (Symbols.Stop s) first value at (stop_byte s ∷ rest) (stops_own s) (and_from _ _ (le-leb _ _ lo) (le-leb _ _ hi))
 
   -- It goes past a digit.
   past_digit : (d digits value at : ℕ) (ys : List ℕ) → d ≤ 9 → more digits value ≡ true
@@ -176,21 +155,9 @@ abbrev pub WrittenAs : Stop → List ℕ → ℕ → List ℕ → Type 0
 WrittenAs s xs v xs' = (xs ≡ numeral v ++ xs') × (v < 1000000) × ((rest : List ℕ) × (xs' ≡ stop_byte s ∷ rest))
 
 stop_byte_is : (s : Stop) (y : Symbol) (b digits value : ℕ) → stops s y ≡ true → Tells b digits value y → (b ≡ stop_byte s) × (1 ≤ digits)
-stop_byte_is Stops.Slash (Symbols.Digit d) b digits value e t = let z : ◌≡◌ {A = ℕ} 0 1 = cc in absurd (omega arith)
-stop_byte_is Stops.Slash Symbols.Slash b digits value e t = t
-stop_byte_is Stops.Slash Symbols.Space b digits value e t = let z : ◌≡◌ {A = ℕ} 0 1 = cc in absurd (omega arith)
-stop_byte_is Stops.Slash Symbols.LineFeed b digits value e t = let z : ◌≡◌ {A = ℕ} 0 1 = cc in absurd (omega arith)
-stop_byte_is Stops.Slash Symbols.Other b digits value e t = let z : ◌≡◌ {A = ℕ} 0 1 = cc in absurd (omega arith)
-stop_byte_is Stops.Space (Symbols.Digit d) b digits value e t = let z : ◌≡◌ {A = ℕ} 0 1 = cc in absurd (omega arith)
-stop_byte_is Stops.Space Symbols.Slash b digits value e t = let z : ◌≡◌ {A = ℕ} 0 1 = cc in absurd (omega arith)
-stop_byte_is Stops.Space Symbols.Space b digits value e t = t
-stop_byte_is Stops.Space Symbols.LineFeed b digits value e t = let z : ◌≡◌ {A = ℕ} 0 1 = cc in absurd (omega arith)
-stop_byte_is Stops.Space Symbols.Other b digits value e t = let z : ◌≡◌ {A = ℕ} 0 1 = cc in absurd (omega arith)
-stop_byte_is Stops.LineFeed (Symbols.Digit d) b digits value e t = let z : ◌≡◌ {A = ℕ} 0 1 = cc in absurd (omega arith)
-stop_byte_is Stops.LineFeed Symbols.Slash b digits value e t = let z : ◌≡◌ {A = ℕ} 0 1 = cc in absurd (omega arith)
-stop_byte_is Stops.LineFeed Symbols.Space b digits value e t = let z : ◌≡◌ {A = ℕ} 0 1 = cc in absurd (omega arith)
-stop_byte_is Stops.LineFeed Symbols.LineFeed b digits value e t = t
-stop_byte_is Stops.LineFeed Symbols.Other b digits value e t = let z : ◌≡◌ {A = ℕ} 0 1 = cc in absurd (omega arith)
+stop_byte_is s (Symbols.Digit d) b digits value e t = let z : ◌≡◌ {A = ℕ} 0 1 = cc in absurd (omega arith)
+stop_byte_is s (Symbols.Stop found) b digits value e t = (t.0 ∙ eqb-true (stop_byte found) (stop_byte s) e, t.1)
+stop_byte_is s Symbols.Other b digits value e t = let z : ◌≡◌ {A = ℕ} 0 1 = cc in absurd (omega arith)
 
 so_far_text : (ds : List ℕ) (digits value : ℕ) → SoFar ds digits value → 1 ≤ digits → (ds ≡ decimal value) × (value < 1000000)
 so_far_text ds zero value h k = absurd (omega (arith, k))
@@ -218,9 +185,7 @@ module _ (l : Limits) (s : Stop) (first v at' : ℕ) (xs' : List ℕ) where
       let w = ih (ds ++ ((48 + d) ∷ [])) (suc digits) (value * 10 + d) (at + 1) (digit_more ds digits value d sf t.1 t.2)
       (subst (λ (n : ℕ). number_on l s first n (value * 10 + d) (at + 1) bs ≡ got v at' xs') e h) in
       (ap (λ (x : ℕ). ds ++ (x ∷ bs)) t.0 ∙ sym (append_assoc ds ((48 + d) ∷ []) bs) ∙ w.0, w.1, w.2)
-  symbol_inv b bs ds digits value at Symbols.Slash sf t ih h = stop_inv b bs ds digits value at Symbols.Slash sf t h
-  symbol_inv b bs ds digits value at Symbols.Space sf t ih h = stop_inv b bs ds digits value at Symbols.Space sf t h
-  symbol_inv b bs ds digits value at Symbols.LineFeed sf t ih h = stop_inv b bs ds digits value at Symbols.LineFeed sf t h
+  symbol_inv b bs ds digits value at (Symbols.Stop y) sf t ih h = stop_inv b bs ds digits value at (Symbols.Stop y) sf t h
   symbol_inv b bs ds digits value at Symbols.Other sf t ih h = stop_inv b bs ds digits value at Symbols.Other sf t h
 
   number_on_inv : (xs ds : List ℕ) (digits value at : ℕ) → SoFar ds digits value → number_on l s first digits value at xs ≡ got v at' xs' → WrittenAs s (ds ++ xs) v xs'

@@ -1,5 +1,6 @@
 -- What a list of bytes means, read from the left: a value with the place and the bytes after it, or the first fault.
-use Rattle.std.specs.Prelude.{ℕ, ◌+◌, ◌-◌, ◌*◌, Bool, true, false, cond, ◌&&◌, ◌||◌, List, [], ◌∷◌, length, Ok, Err, Result, ◌==◌, nat_le, nat_lt}
+use Rattle.std.specs.Prelude.{◌≡◌, ℕ, ◌+◌, ◌-◌, ◌*◌, Bool, false, cond, ◌&&◌, ◌||◌, List, [], ◌∷◌, length, Ok, Err, Result, ◌==◌, nat_le, nat_lt}
+use Rattle.sheet.specs.declared.cursor.Cursor.{Cursor}
 use Rattle.sheet.specs.declared.fault.SheetFault.{SheetFault}
 use Rattle.sheet.specs.declared.fault.SheetFault.TheVariants.{Overlong, Misspelt, OffScale}
 use Rattle.sheet.specs.declared.symbol.Limits.{Limits}
@@ -22,6 +23,14 @@ told (Err e) at rest = bad e
 abbrev pub told_as : {A B : Type 0} → (A → B) → Result A SheetFault → ℕ → List ℕ → Read B
 told_as view (Ok x) at rest = got (view x) at rest
 told_as view (Err e) at rest = bad e
+
+-- The parser, run at the old cursor, gives this result and leaves the new cursor.
+abbrev pub Parses : {A : Type 0} → (ℕ → List ℕ → Read A) → Cursor → Result A SheetFault → Cursor → Type 0
+Parses parser old result new = parser old.at old.rest.now ≡ told result new.at new.rest.now
+
+-- The same, of a result that holds the value in another form.
+abbrev pub ParsesAs : {A B : Type 0} → (A → B) → (ℕ → List ℕ → Read B) → Cursor → Result A SheetFault → Cursor → Type 0
+ParsesAs view parser old result new = parser old.at old.rest.now ≡ told_as view result new.at new.rest.now
 
 -- One reading after another, which is told what the first gave.
 abbrev pub next : {A B : Type 0} → Read A → (A → ℕ → List ℕ → Read B) → Read B
@@ -50,27 +59,9 @@ more digits value = digits == 0 || (nat_lt 0 value && nat_lt digits 6)
 abbrev pub symbol_of : ℕ → ℕ → ℕ → Symbol
 symbol_of b digits value =
     cond (nat_le 48 b && nat_le b 57 && more digits value) (Symbols.Digit (b - 48))
-    (cond (b == 47 && nat_lt 0 digits) Symbols.Slash
-    (cond (b == 32 && nat_lt 0 digits) Symbols.Space
-    (cond (b == 10 && nat_lt 0 digits) Symbols.LineFeed Symbols.Other)))
-
--- Whether a symbol is the stop that has to come.
-abbrev pub stops : Stop → Symbol → Bool
-stops Stops.Slash (Symbols.Digit d) = false
-stops Stops.Slash Symbols.Slash = true
-stops Stops.Slash Symbols.Space = false
-stops Stops.Slash Symbols.LineFeed = false
-stops Stops.Slash Symbols.Other = false
-stops Stops.Space (Symbols.Digit d) = false
-stops Stops.Space Symbols.Slash = false
-stops Stops.Space Symbols.Space = true
-stops Stops.Space Symbols.LineFeed = false
-stops Stops.Space Symbols.Other = false
-stops Stops.LineFeed (Symbols.Digit d) = false
-stops Stops.LineFeed Symbols.Slash = false
-stops Stops.LineFeed Symbols.Space = false
-stops Stops.LineFeed Symbols.LineFeed = true
-stops Stops.LineFeed Symbols.Other = false
+    (cond (b == 47 && nat_lt 0 digits) (Symbols.Stop Stops.Slash)
+    (cond (b == 32 && nat_lt 0 digits) (Symbols.Stop Stops.Space)
+    (cond (b == 10 && nat_lt 0 digits) (Symbols.Stop Stops.LineFeed) Symbols.Other)))
 
 -- The byte of a stop.
 abbrev pub stop_byte : Stop → ℕ
@@ -78,10 +69,19 @@ stop_byte Stops.Slash = 47
 stop_byte Stops.Space = 32
 stop_byte Stops.LineFeed = 10
 
+-- Whether a symbol is the stop that has to come.
+abbrev pub stops : Stop → Symbol → Bool
+stops stop (Symbols.Digit d) = false
+stops stop (Symbols.Stop found) = stop_byte found == stop_byte stop
+stops stop Symbols.Other = false
+
+-- Whether a value is within limits.
+abbrev pub within : Limits → ℕ → Bool
+within limits value = nat_le limits.least value && nat_le value limits.most
+
 -- A number weighed: off its limits it is a fault at its first digit.
 abbrev pub weighed : Limits → ℕ → ℕ → ℕ → List ℕ → Read ℕ
-weighed limits first value at rest =
-    cond (nat_lt value limits.least || nat_lt limits.most value) (bad (OffScale first)) (got value at rest)
+weighed limits first value at rest = cond (within limits value) (got value at rest) (bad (OffScale first))
 
 -- A number where a symbol that is no digit came: it has to be the stop.
 abbrev pub stopped : Limits → Stop → Symbol → ℕ → ℕ → ℕ → List ℕ → Read ℕ
@@ -91,9 +91,7 @@ stopped limits stop symbol first value at rest =
 -- The number goes on with a digit, and is stopped by any other symbol.
 abbrev pub by_symbol : {A : Type 0} → Symbol → (ℕ → A) → (Symbol → A) → A
 by_symbol (Symbols.Digit d) goes_on stop = goes_on d
-by_symbol Symbols.Slash goes_on stop = stop Symbols.Slash
-by_symbol Symbols.Space goes_on stop = stop Symbols.Space
-by_symbol Symbols.LineFeed goes_on stop = stop Symbols.LineFeed
+by_symbol (Symbols.Stop found) goes_on stop = stop (Symbols.Stop found)
 by_symbol Symbols.Other goes_on stop = stop Symbols.Other
 
 -- The rest of a number that has some digits and a value, and whose first digit stood at `first`: digits, and then the stop,

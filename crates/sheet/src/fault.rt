@@ -1,17 +1,42 @@
 // What a refusal shows, and the faults of a sheet's bytes.
 ghost use Rattle.std.specs.Prelude.{◌≡◌, Some};
-ghost use Rattle.sheet.specs.Faults.{shown, fault_line};
+ghost use Rattle.sheet.specs.Faults.{letter, shown, fault_line};
 
+use crate::cursor::MAX_BYTES;
 use std::fmt;
 
-// A refusal as it is written: the letter of the layer that refused, the number of the fault, and its place.
+// What refuses: a sheet's bytes, a task set, a plan, or a machine.
+#[derive(Clone, Copy, PartialEq, Eq, Debug)]
+pub enum Layer {
+    Sheet,
+    Set,
+    Plan,
+    Machine,
+}
+
+// A refusal as it is written: the layer that refused, and what the table of refusals has for the fault: a number and a place.
 #[derive(Clone, Copy, PartialEq, Eq, Debug)]
 pub struct Refusal {
-    pub layer: char,
+    pub layer: Layer,
+    // the number is the output's own: what went wrong is told by the enums of faults
     pub number: u8,
     pub place: u64,
 }
 
+impl fmt::Display for Layer {
+    ghost output = { λ layer. Some (letter layer) };
+
+    fn fmt<W: fmt::Write>(&self, f: &mut fmt::Formatter<W>) -> fmt::Result {
+        f.write_str(match self {
+            Layer::Sheet => "S",
+            Layer::Set => "G",
+            Layer::Plan => "K",
+            Layer::Machine => "M",
+        })
+    }
+}
+
+// By hand, here and at each fault: what the derive of thiserror writes has no contract, and so no `output` to print by.
 impl fmt::Display for Refusal {
     ghost output = { λ r. Some (fault_line r) };
 
@@ -35,26 +60,19 @@ pub enum SheetFault {
 }
 
 impl SheetFault {
-    // Layer, number and place of the fault.
+    // Layer, number and place of the fault. A usize is widened by `as`: there is no From into u64 for it.
     pub fn refusal(&self) -> Refusal
         ensures { result ≡ shown self.now }
     {
-        match *self {
-            SheetFault::Overlong => Refusal {
-                layer: 'S',
-                number: 1,
-                place: 4096,
-            },
-            SheetFault::Misspelt { at } => Refusal {
-                layer: 'S',
-                number: 2,
-                place: at as u64,
-            },
-            SheetFault::OffScale { at } => Refusal {
-                layer: 'S',
-                number: 3,
-                place: at as u64,
-            },
+        let (number, place) = match *self {
+            SheetFault::Overlong => (1, MAX_BYTES),
+            SheetFault::Misspelt { at } => (2, at),
+            SheetFault::OffScale { at } => (3, at),
+        };
+        Refusal {
+            layer: Layer::Sheet,
+            number,
+            place: place as u64,
         }
     }
 }
@@ -63,7 +81,6 @@ impl fmt::Display for SheetFault {
     ghost output = { λ f. Some (fault_line (shown f)) };
 
     fn fmt<W: fmt::Write>(&self, f: &mut fmt::Formatter<W>) -> fmt::Result {
-        let refusal = self.refusal();
-        write!(f, "{refusal}")
+        self.refusal().fmt(f)
     }
 }

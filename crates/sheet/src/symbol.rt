@@ -7,23 +7,21 @@ pub struct Limits {
     pub most: u32,
 }
 
-// What a byte is to a number of which some digits have been read.
-#[derive(Clone, Copy)]
-pub enum Symbol {
-    Digit(u32),
-    Slash,
-    Space,
-    LineFeed,
-    // a byte that is not allowed there
-    Other,
-}
-
 // What has to stand after a number.
-#[derive(Clone, Copy)]
+#[derive(Clone, Copy, PartialEq, Eq)]
 pub enum Stop {
     Slash,
     Space,
     LineFeed,
+}
+
+// What a byte is to a number of which some digits have been read.
+#[derive(Clone, Copy, PartialEq, Eq)]
+pub enum Symbol {
+    Digit(u32),
+    Stop(Stop),
+    // a byte that is not allowed there
+    Other,
 }
 
 pub mod classes;

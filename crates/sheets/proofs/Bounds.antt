@@ -1,73 +1,73 @@
 -- What is read is within its limits, and there is as much of it as there should be.
-use Rattle.std.proofs.Common.{◌≡◌, ℕ, zero, suc, ◌<◌, ◌≤◌, List, [], ◌∷◌, length, get_or, take, refl, ap, subst, arith}
-use Rattle.std.proofs.lemmas.List.{get_or-take}
+use Rattle.std.proofs.Common.{◌≡◌, ℕ, zero, suc, ◌<◌, ◌≤◌, List, [], ◌∷◌, length, get_or, replicate, refl, ap, ◌∙◌, subst, arith}
+use Rattle.std.proofs.lemmas.List.{length-replicate}
 use Rattle.sheet.specs.declared.symbol.Limits.{Limits}
 use Rattle.sheet.specs.declared.symbol.Stop.{Stop}
 use Rattle.sheet.specs.declared.symbol.Stop.TheVariants.{Slash}
-use Rattle.sheet.specs.Reading.{got, expected, number}
+use Rattle.sheet.specs.Reading.{Read, got, expected, number}
 use Rattle.sheet.proofs.Scale.{next_both, number_within}
 use Rattle.sheets.specs.declared.lines.Pair.{Pair}
-use Rattle.sheets.specs.Grammar.{limits, ticks, numbers, pair, pairs, none, next_stop, line_of_numbers, line_of_pairs}
+use Rattle.sheets.specs.declared.lines.PairLimits.{PairLimits}
+use Rattle.sheets.specs.Grammar.{limits, ticks, items, numbers, pair_within, pairs, none, next_stop, line_of_numbers, line_of_pairs}
 
 abbrev pub Within : Limits → ℕ → Type 0
 Within l v = (l.least ≤ v) × (v ≤ l.most)
 
--- One number for each of the limits, within it.
-abbrev pub Fit : List Limits → List ℕ → Type 0
-Fit [] [] = Unit {0}
-Fit [] (v ∷ vs) = ⊥
-Fit (l ∷ ls) [] = ⊥
-Fit (l ∷ ls) (v ∷ vs) = Within l v × Fit ls vs
+abbrev pub PairWithin : PairLimits → Pair → Type 0
+PairWithin w p = Within w.left p.left × Within w.right p.right
 
-pub numbers_fit : (ls : List Limits) (at : ℕ) (xs : List ℕ) (vs : List ℕ) (at' : ℕ) (xs' : List ℕ) → numbers ls at xs ≡ got vs at' xs' → Fit ls vs
-numbers_fit [] at xs vs at' xs' h =
+-- One item for each of the limits, which it fits.
+abbrev pub FitAll : {W A : Type 0} → (W → A → Type 0) → List W → List A → Type 0
+FitAll fits [] [] = Unit {0}
+FitAll fits [] (v ∷ vs) = ⊥
+FitAll fits (w ∷ ws) [] = ⊥
+FitAll fits (w ∷ ws) (v ∷ vs) = fits w v × FitAll fits ws vs
+
+abbrev pub Fit : List Limits → List ℕ → Type 0
+Fit = FitAll Within
+
+abbrev pub FitPairs : Limits → Limits → ℕ → List Pair → Type 0
+FitPairs l r n = FitAll PairWithin (replicate n (record { left = l; right = r }))
+
+-- Items that are read fit, where each does.
+items_fit : {W A : Type 0} (item : W → Stop → ℕ → List ℕ → Read A) (fits : W → A → Type 0)
+    → ((w : W) (s : Stop) (at : ℕ) (xs : List ℕ) (v : A) (at' : ℕ) (xs' : List ℕ) → item w s at xs ≡ got v at' xs' → fits w v)
+    → (ws : List W) (at : ℕ) (xs : List ℕ) (vs : List A) (at' : ℕ) (xs' : List ℕ) → items item ws at xs ≡ got vs at' xs' → FitAll fits ws vs
+items_fit item fits one [] at xs vs at' xs' h =
     let p = next_both (expected 10 at xs) _ vs at' xs' h in
     let e : [] ≡ vs = cc p.4 in
-    subst (Fit []) e tt
-numbers_fit (l ∷ ls) at xs vs at' xs' h =
+    subst (FitAll fits []) e tt
+items_fit item fits one (w ∷ ws) at xs vs at' xs' h =
     let p = next_both (expected 32 at xs) _ vs at' xs' h in
-    let q = next_both (number l (next_stop (length ls)) p.1 p.2) _ vs at' xs' p.4 in
-    let r = next_both (numbers ls q.1 q.2) _ vs at' xs' q.4 in
+    let q = next_both (item w (next_stop (length ws)) p.1 p.2) _ vs at' xs' p.4 in
+    let r = next_both (items item ws q.1 q.2) _ vs at' xs' q.4 in
     let e : (q.0 ∷ r.0) ≡ vs = cc r.4 in
-    subst (Fit (l ∷ ls)) e (number_within l (next_stop (length ls)) p.1 p.2 q.0 q.1 q.2 q.3, numbers_fit ls q.1 q.2 r.0 r.1 r.2 r.3)
+    subst (FitAll fits (w ∷ ws)) e (one w (next_stop (length ws)) p.1 p.2 q.0 q.1 q.2 q.3, items_fit item fits one ws q.1 q.2 r.0 r.1 r.2 r.3)
 
-abbrev pub PairWithin : Limits → Limits → Pair → Type 0
-PairWithin l r p = Within l p.left × Within r p.right
+pub fit_length : {W A : Type 0} (fits : W → A → Type 0) (ws : List W) (vs : List A) → FitAll fits ws vs → length vs ≡ length ws
+fit_length fits [] [] h = refl
+fit_length fits [] (v ∷ vs) h = absurd h
+fit_length fits (w ∷ ws) [] h = absurd h
+fit_length fits (w ∷ ws) (v ∷ vs) h = ap suc (fit_length fits ws vs h.1)
 
-pub pair_fits : (l r : Limits) (s : Stop) (at : ℕ) (xs : List ℕ) (p : Pair) (at' : ℕ) (xs' : List ℕ) → pair l r s at xs ≡ got p at' xs' → PairWithin l r p
-pair_fits l r s at xs p at' xs' h =
-    let a = next_both (number l Slash at xs) _ p at' xs' h in
+pub numbers_fit : (ls : List Limits) (at : ℕ) (xs : List ℕ) (vs : List ℕ) (at' : ℕ) (xs' : List ℕ) → numbers ls at xs ≡ got vs at' xs' → Fit ls vs
+numbers_fit = items_fit number Within number_within
+
+pair_fits : (w : PairLimits) (s : Stop) (at : ℕ) (xs : List ℕ) (p : Pair) (at' : ℕ) (xs' : List ℕ) → pair_within w s at xs ≡ got p at' xs' → PairWithin w p
+pair_fits w s at xs p at' xs' h =
+    let a = next_both (number w.left Slash at xs) _ p at' xs' h in
     let b = next_both (expected 47 a.1 a.2) _ p at' xs' a.4 in
-    let c = next_both (number r s b.1 b.2) _ p at' xs' b.4 in
+    let c = next_both (number w.right s b.1 b.2) _ p at' xs' b.4 in
     let e : record { left = a.0; right = c.0 } ≡ p = cc c.4 in
-    subst (PairWithin l r) e (number_within l Slash at xs a.0 a.1 a.2 a.3, number_within r s b.1 b.2 c.0 c.1 c.2 c.3)
+    subst (PairWithin w) e (number_within w.left Slash at xs a.0 a.1 a.2 a.3, number_within w.right s b.1 b.2 c.0 c.1 c.2 c.3)
 
--- So many pairs, each within its limits.
-abbrev pub FitPairs : Limits → Limits → ℕ → List Pair → Type 0
-FitPairs l r zero [] = Unit {0}
-FitPairs l r zero (p ∷ ps) = ⊥
-FitPairs l r (suc n) [] = ⊥
-FitPairs l r (suc n) (p ∷ ps) = PairWithin l r p × FitPairs l r n ps
-
-pub pairs_fit : (l r : Limits) (n : ℕ) (at : ℕ) (xs : List ℕ) (ps : List Pair) (at' : ℕ) (xs' : List ℕ) → pairs l r n at xs ≡ got ps at' xs' → FitPairs l r n ps
-pairs_fit l r zero at xs ps at' xs' h =
-    let p = next_both (expected 10 at xs) _ ps at' xs' h in
-    let e : [] ≡ ps = cc p.4 in
-    subst (FitPairs l r 0) e tt
-pairs_fit l r (suc n) at xs ps at' xs' h =
-    let a = next_both (expected 32 at xs) _ ps at' xs' h in
-    let b = next_both (pair l r (next_stop n) a.1 a.2) _ ps at' xs' a.4 in
-    let c = next_both (pairs l r n b.1 b.2) _ ps at' xs' b.4 in
-    let e : (b.0 ∷ c.0) ≡ ps = cc c.4 in
-    subst (FitPairs l r (suc n)) e (pair_fits l r (next_stop n) a.1 a.2 b.0 b.1 b.2 b.3, pairs_fit l r n b.1 b.2 c.0 c.1 c.2 c.3)
+pairs_fit : (l r : Limits) (n : ℕ) (at : ℕ) (xs : List ℕ) (ps : List Pair) (at' : ℕ) (xs' : List ℕ) → pairs l r n at xs ≡ got ps at' xs' → FitPairs l r n ps
+pairs_fit l r n = items_fit pair_within PairWithin pair_fits (replicate n (record { left = l; right = r }))
 
 pub fit_pairs_length : (l r : Limits) (n : ℕ) (ps : List Pair) → FitPairs l r n ps → length ps ≡ n
-fit_pairs_length l r zero [] h = refl
-fit_pairs_length l r zero (p ∷ ps) h = absurd h
-fit_pairs_length l r (suc n) [] h = absurd h
-fit_pairs_length l r (suc n) (p ∷ ps) h = ap suc (fit_pairs_length l r n ps h.1)
+fit_pairs_length l r n ps h = fit_length PairWithin (replicate n (record { left = l; right = r })) ps h ∙ length-replicate n _
 
-pub fit_pairs_at : (l r : Limits) (n : ℕ) (ps : List Pair) → FitPairs l r n ps → (i : ℕ) → i < n → PairWithin l r (get_or ps i none)
+pub fit_pairs_at : (l r : Limits) (n : ℕ) (ps : List Pair) → FitPairs l r n ps → (i : ℕ) → i < n → PairWithin (record { left = l; right = r }) (get_or ps i none)
 fit_pairs_at l r zero ps h i k = absurd (omega (arith, k))
 fit_pairs_at l r (suc n) [] h i k = absurd h
 fit_pairs_at l r (suc n) (p ∷ ps) h zero k = h.0
@@ -89,13 +89,15 @@ first_fits l ls [] h = absurd h
 first_fits l ls (v ∷ vs) h = h.0
 
 -- A task sheet has 1 to 32 tasks, and a plan sheet 1 to 64 parts.
-pub task_count : (n at : ℕ) (xs a : List ℕ) (at' : ℕ) (xs' : List ℕ) → line_of_numbers 84 n at xs ≡ got (take 2 a) at' xs' → Within (limits 1 32) (get_or a 0 0)
+pub task_count : (n at : ℕ) (xs a : List ℕ) (at' : ℕ) (xs' : List ℕ) → line_of_numbers 84 n at xs ≡ got a at' xs' → Within (limits 1 32) (get_or a 0 0) × (length a ≡ 2)
 task_count n at xs a at' xs' h =
-    subst (Within (limits 1 32)) (get_or-take 2 a 0 0 (omega arith)) (first_fits (limits 1 32) (limits 1 8 ∷ []) (take 2 a) (number_line_fits n at xs (take 2 a) at' xs' h))
+    let f = number_line_fits n at xs a at' xs' h in
+    (first_fits (limits 1 32) (limits 1 8 ∷ []) a f, fit_length Within (limits 1 32 ∷ limits 1 8 ∷ []) a f)
 
-pub part_count : (n at : ℕ) (xs a : List ℕ) (at' : ℕ) (xs' : List ℕ) → line_of_numbers 75 n at xs ≡ got (take 1 a) at' xs' → Within (limits 1 64) (get_or a 0 0)
+pub part_count : (n at : ℕ) (xs a : List ℕ) (at' : ℕ) (xs' : List ℕ) → line_of_numbers 75 n at xs ≡ got a at' xs' → Within (limits 1 64) (get_or a 0 0) × (length a ≡ 1)
 part_count n at xs a at' xs' h =
-    subst (Within (limits 1 64)) (get_or-take 1 a 0 0 (omega arith)) (first_fits (limits 1 64) [] (take 1 a) (part_count_fits n at xs (take 1 a) at' xs' h))
+    let f = part_count_fits n at xs a at' xs' h in
+    (first_fits (limits 1 64) [] a f, fit_length Within (limits 1 64 ∷ []) a f)
 
 pub places_fit : (n at : ℕ) (xs : List ℕ) (ps : List Pair) (at' : ℕ) (xs' : List ℕ) → line_of_pairs 80 n at xs ≡ got ps at' xs' → FitPairs (limits 0 31) (limits 0 7) n ps
 places_fit n at xs ps at' xs' h =

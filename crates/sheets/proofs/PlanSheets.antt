@@ -11,22 +11,23 @@ use Rattle.sheet.specs.Reading.{Read, got, bad, next, expected}
 use Rattle.sheet.proofs.Numerals.{expects, expected_inv}
 use Rattle.sheet.proofs.Scale.{next_both}
 use Rattle.sheets.specs.declared.lines.Pair.{Pair}
+use Rattle.sheets.specs.declared.text.Line.TheVariants.{Places, Amounts}
 use Rattle.sheets.specs.Grammar.{limits, ticks, numbers, pairs, line_of_numbers, line_of_pairs, lines_of_plan, plan_sheet, closed, whole, assembled, part_of}
 use Rattle.sheets.specs.Laws.{Sheetable, SheetsAreTexts, DifferentSheets, WrittenBack}
-use Rattle.sheets.specs.Texts.{place_text, amounts_text, items_text, plan_text, writable, unwritable, no_part, written, written_or, fitted}
+use Rattle.sheets.specs.Texts.{pair_shown, pair_of, place_text, amounts_text, items_text, plan_text, writable, unwritable, no_part, written, written_or, fitted}
 use Rattle.tasks.proofs.Searches.{first_none}
 use Rattle.sheets.proofs.Bounds.{Fit, FitPairs, fit_pairs_length, part_count_fits, places_fit, amounts_fit}
 use Rattle.sheets.proofs.Items.{next_got}
-use Rattle.sheets.proofs.RoundTrips.{pair_shown, reads_numbers, numbers_inv, reads_pairs, pairs_inv}
+use Rattle.sheets.proofs.RoundTrips.{reads_numbers, numbers_inv, reads_pairs, pairs_inv}
 use Rattle.sheets.proofs.Texts.{small, count_line_short, places_line_short, amounts_line_short}
 use Rattle.sheets.proofs.Whole.{plan_count, assembled_length}
 
 -- The place and the amounts of a part.
 abbrev place_of : Part → Pair
-place_of p = record { left = p.task; right = p.processor }
+place_of = pair_of Places
 
 abbrev amounts_of : Part → Pair
-amounts_of p = record { left = p.cost; right = p.window }
+amounts_of = pair_of Amounts
 
 items_map : {A : Type 0} (f : A → Pair) (g : A → List ℕ) → ((x : A) → pair_shown (f x) ≡ g x) → (xs : List A) → items_text pair_shown (map f xs) ≡ items_text g xs
 items_map f g e [] = refl

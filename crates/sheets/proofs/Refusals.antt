@@ -1,30 +1,17 @@
 -- What an answer's definition says of its refusal.
 use Rattle.std.proofs.Common.{◌≡◌, List, Some, Ok, Err, Result, sym, ap, ◌∙◌}
 use Rattle.std.specs.Option as options
-use Rattle.std.specs.Result.{result_map_both}
 use Rattle.schedule.specs.declared.Part.{Part}
 use Rattle.sheet.specs.declared.fault.Refusal.{Refusal}
 use Rattle.sheet.specs.declared.fault.SheetFault.{SheetFault}
-use Rattle.tasks.specs.declared.fault.SetFault.{SetFault}
 use Rattle.parts.specs.declared.fault.PlanFault.{PlanFault}
 use Rattle.parts.specs.declared.lists.Proposal.{Proposal}
 use Rattle.tasks.specs.Faults as Sets
 use Rattle.parts.specs.Faults as Plans
 use Rattle.sheets.specs.declared.TaskSheet.{TaskSheet}
-use Rattle.sheets.specs.Answers.{ReadTasks, ReadBoth}
+use Rattle.sheets.specs.Answers.{ReadBoth}
 use Rattle.sheets.specs.Grammar.{Tasks}
 use Rattle.sheets.specs.Refusals.{refusal_in, then_set}
-
--- A result in another form has the same refusal.
-pub refusal_mapped : {A B E : Type 0} (shown : E → Refusal) (view : A → B) (r : Result A E) (R : Result B E) → result_map_both view (λ e. e) r ≡ R
-    → refusal_in shown r ≡ refusal_in shown R
-refusal_mapped shown view (Ok x) R h = ap (refusal_in shown) h
-refusal_mapped shown view (Err e) R h = ap (refusal_in shown) h
-
-pub refusal_of_tasks : (R : Result Tasks SheetFault) (r : Result TaskSheet SetFault) → ReadTasks R r → refusal_in Sets.shown r ≡ then_set (λ t. t) R
-refusal_of_tasks (Ok t) (Ok s) h = ap (options.option_map Sets.shown) (sym h.0.0)
-refusal_of_tasks (Ok t) (Err f) h = ap (options.option_map Sets.shown) (sym h)
-refusal_of_tasks (Err e) r h = ap (refusal_in Sets.shown) h
 
 pub refusal_of_both : (R : Result (Tasks × List Part) SheetFault) (r : Result (TaskSheet × Proposal) PlanFault) → ReadBoth R r → refusal_in Plans.shown r ≡ then_set (λ b. b.0) R
 refusal_of_both (Ok b) (Ok s) h = ap (options.option_map Sets.shown) (sym h.0.0.0)

@@ -1,5 +1,5 @@
 -- The task sheets are exactly the texts of tasks, and both sheets are one text after the other.
-use Rattle.std.proofs.Common.{◌≡◌, ℕ, zero, suc, ◌+◌, ◌*◌, ◌<◌, ◌≤◌, true, ltb, leb, List, [], ◌∷◌, ◌++◌, length, get_or, replicate, Ok, sym, refl, ap, ◌∙◌, subst, ap₂, arith}
+use Rattle.std.proofs.Common.{◌≡◌, ℕ, zero, suc, ◌+◌, ◌*◌, ◌<◌, ◌≤◌, true, ltb, leb, List, [], ◌∷◌, ◌++◌, length, get_or, replicate, Ok, Err, Result, sym, refl, ap, ◌∙◌, subst, ap₂, arith}
 use Rattle.std.proofs.lemmas.List.{append_assoc, append-nil, length-append}
 use Rattle.std.proofs.lemmas.Bool.{le-ltb, cond-false, and_from, and_parts, le-leb, leb-true}
 use Rattle.schedule.specs.declared.Part.{Part}
@@ -8,6 +8,10 @@ use Rattle.sheet.specs.Numerals.{numeral}
 use Rattle.sheet.specs.Reading.{got, next, expected}
 use Rattle.sheet.proofs.Numerals.{expects, expected_inv, numeral_short}
 use Rattle.sheet.proofs.Scale.{next_both}
+use Rattle.parts.specs.Parts.{PartList, parts_of}
+use Rattle.sheet.specs.declared.fault.SheetFault.{SheetFault}
+use Rattle.sheets.specs.declared.TaskSheet.{TaskSheet}
+use Rattle.sheets.specs.Answers.{ReadParts}
 use Rattle.sheets.specs.Grammar.{Tasks, limits, ticks, numbers, line_of_numbers, lines_of_tasks, task_sheet, lines_of_plan, both_lines, sheet_pair, closed}
 use Rattle.sheets.specs.Laws.{Sheetable, TaskSheetable, TaskSheetsAreTexts, BothAreTexts}
 use Rattle.sheets.specs.Texts.{items_text, task_text, plan_text}
@@ -182,3 +186,13 @@ both_are_texts bytes t ps = (
         cond-false (ltb 4096 (length (task_text t ++ plan_text ps))) _ _ (le-ltb 4096 (length (task_text t ++ plan_text ps)) h)
         ∙ ap closed (next_got (lines_of_tasks 0 (task_text t ++ plan_text ps)) (λ tasks at xs. next (lines_of_plan at xs) (λ parts at xs. got (tasks, parts) at xs)) t a.0 (plan_text ps) a.1
         ∙ next_got (lines_of_plan a.0 (plan_text ps)) (λ parts at xs. got (t, parts) at xs) ps b.0 [] b.1)
+
+-- Both sheets that are read hold 1 to 64 parts.
+pub both_count : (bytes : List ℕ) (b : TaskSheet × PartList) → ReadParts (sheet_pair bytes) (Ok b) → (1 ≤ length (parts_of b.1)) × (length (parts_of b.1) ≤ 64)
+both_count bytes b h = counted (sheet_pair bytes) refl h
+  where
+    counted : (R : Result (Tasks × List Part) SheetFault) → sheet_pair bytes ≡ R → ReadParts R (Ok b) → (1 ≤ length (parts_of b.1)) × (length (parts_of b.1) ≤ 64)
+    counted (Ok r) e h =
+        let s = (both_are_texts bytes r.0 r.1).0 e in
+        subst (λ (ps : List Part). (1 ≤ length ps) × (length ps ≤ 64)) (sym h.1) (s.1.some, s.1.few)
+    counted (Err f) e h = let z : ◌≡◌ {A = ℕ} 0 1 = cc in absurd (omega arith)

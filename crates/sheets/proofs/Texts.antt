@@ -1,56 +1,40 @@
 -- A text that grows, and how long it gets.
-use Rattle.std.proofs.Common.{◌≡◌, ℕ, zero, suc, ◌+◌, ◌*◌, ◌/◌, ◌%◌, ◌<◌, ◌≤◌, true, leb, List, [], ◌∷◌, ◌++◌, length, get_or, take, set, sym, refl, ap, ◌∙◌, arith}
-use Rattle.std.proofs.lemmas.List.{length-take-le, take_more_set, length-append, append_assoc, append-nil, take_all}
-use Rattle.sheet.proofs.Numerals.{numeral_digit, numeral_step, numeral_short}
+use Rattle.std.proofs.Common.{◌≡◌, ℕ, zero, suc, ◌+◌, ◌*◌, ◌<◌, ◌≤◌, true, Bool, not, cond, leb, List, [], ◌∷◌, ◌++◌, length, get_or, take, decimal, Some, Option, sym, refl, ap, ap₂, ◌∙◌, arith}
+use Rattle.std.proofs.lemmas.List.{length-append, append_assoc, append-nil, take_all}
+use Rattle.std.specs.List.{position, position_from}
+use Rattle.std.proofs.lemmas.Iterator.Adapters.{position_from-zero}
+use Rattle.tasks.specs.Searches.{first_from, first_where}
+use Rattle.sheet.proofs.Numerals.{numeral_decimal, numeral_short}
 use Rattle.std.proofs.lemmas.Bool.{and_parts, leb-true}
 use Rattle.sheet.specs.Numerals.{numeral}
 use Rattle.schedule.specs.declared.Part.{Part}
-use Rattle.sheets.specs.declared.text.Text.{Text}
-use Rattle.sheets.specs.Texts.{text_of, pair_text, place_text, amounts_text, items_text, listed, plan_text, writable, no_part}
+use Rattle.sheets.specs.declared.text.Line.{Line}
+use Rattle.sheets.specs.declared.text.Line.TheVariants.{Places, Amounts}
+use Rattle.sheets.specs.Texts.{pair_shown, pair_of, letter_of, pair_text, place_text, amounts_text, items_text, listed, count_text, line_text, writable, unwritable, no_part}
 use Rattle.tasks.specs.Sets.{on_scale}
-
-pub text_length : (t : Text) → length (text_of t) ≡ t.count
-text_length t = length-take-le t.count t.bytes (omega (arith, t.few, t.sized))
-
-pub text_push : (t : Text) (b : ℕ) → t.count < 1225 → take (t.count + 1) (set t.bytes t.count b) ≡ text_of t ++ (b ∷ [])
-text_push t b h = take_more_set t.bytes t.count b (omega (arith, t.sized))
 
 -- How long a text is after an addition.
 pub grown : (new old more : List ℕ) → new ≡ old ++ more → length new ≡ length old + length more
 grown new old more e = ap length e ∙ length-append old more
 
--- The digits of a number.
-pub numeral_one : (n : ℕ) → n < 10 → length (numeral n) ≡ 1
-numeral_one n h = ap length (numeral_digit n h)
-
-step : (n : ℕ) → 10 ≤ n → n < 1000000 → numeral n ≡ numeral (n / 10) ++ ((48 + n % 10) ∷ [])
-step n h k = numeral_step n h k
-
-pub numeral_longer : (n : ℕ) → 10 ≤ n → n < 1000000 → length (numeral n) ≡ length (numeral (n / 10)) + 1
-numeral_longer n h k = ap length (step n h k) ∙ length-append (numeral (n / 10)) ((48 + n % 10) ∷ [])
-
-pub by_digits : (t₀ t₁ t₂ t₃ : List ℕ) (n : ℕ) → 10 ≤ n → n < 1000000 → t₁ ≡ t₀ ++ numeral (n / 10) → t₂ ≡ t₁ → t₃ ≡ t₂ ++ ((48 + n % 10) ∷ [])
-    → t₃ ≡ t₀ ++ numeral n
-by_digits t₀ t₁ t₂ t₃ n h k a b c =
-    c ∙ ap (λ (l : List ℕ). l ++ ((48 + n % 10) ∷ [])) (b ∙ a) ∙ append_assoc t₀ (numeral (n / 10)) ((48 + n % 10) ∷ [])
-    ∙ ap (λ (l : List ℕ). t₀ ++ l) (sym (step n h k))
-
-pub by_digit : (t₀ t₁ t₂ : List ℕ) (n : ℕ) → n < 10 → t₁ ≡ t₀ → t₂ ≡ t₁ ++ ((48 + n % 10) ∷ []) → t₂ ≡ t₀ ++ numeral n
-by_digit t₀ t₁ t₂ n h a b =
-    let e : n % 10 ≡ n = omega arith in
-    b ∙ ap (λ (l : List ℕ). l ++ ((48 + n % 10) ∷ [])) a ∙ ap (λ (m : ℕ). t₀ ++ ((48 + m) ∷ [])) e
-    ∙ ap (λ (l : List ℕ). t₀ ++ l) (sym (numeral_digit n h))
-
 pub pair_length : (l r : ℕ) → length (pair_text l r) ≡ length (numeral l) + (1 + length (numeral r))
 pair_length l r = length-append (numeral l) (47 ∷ numeral r) ∙ omega arith
 
-pub by_pair : (t₀ t₁ t₂ t₃ t₄ a b : List ℕ) (x y : ℕ) → t₁ ≡ t₀ ++ (x ∷ []) → t₂ ≡ t₁ ++ a → t₃ ≡ t₂ ++ (y ∷ []) → t₄ ≡ t₃ ++ b
-    → t₄ ≡ t₀ ++ (x ∷ (a ++ (y ∷ b)))
-by_pair t₀ t₁ t₂ t₃ t₄ a b x y e₁ e₂ e₃ e₄ = rw (e₄, e₃, e₂, e₁) (simp append_assoc)
+-- A text with a pair more, whose numbers were printed.
+pub pair_printed : (l r : ℕ) → l < 1000000 → r < 1000000 → length (pair_text l r) ≡ length (decimal l) + (1 + length (decimal r))
+pair_printed l r h k = omega (arith, pair_length l r, ap length (numeral_decimal l h), ap length (numeral_decimal r k))
 
-pub by_count : (t₀ t₁ t₂ t₃ t₄ a : List ℕ) (x y z : ℕ) → t₁ ≡ t₀ ++ (x ∷ []) → t₂ ≡ t₁ ++ (y ∷ []) → t₃ ≡ t₂ ++ a → t₄ ≡ t₃ ++ (z ∷ [])
-    → t₄ ≡ t₀ ++ (x ∷ y ∷ (a ++ (z ∷ [])))
-by_count t₀ t₁ t₂ t₃ t₄ a x y z e₁ e₂ e₃ e₄ = rw (e₄, e₃, e₂, e₁) (simp append_assoc)
+pub by_pair : (t₀ t₁ t₂ t₃ t₄ : List ℕ) (l r : ℕ) → l < 1000000 → r < 1000000 → t₁ ≡ t₀ ++ (32 ∷ []) → t₂ ≡ t₁ ++ decimal l → t₃ ≡ t₂ ++ (47 ∷ []) → t₄ ≡ t₃ ++ decimal r
+    → t₄ ≡ t₀ ++ (32 ∷ pair_text l r)
+by_pair t₀ t₁ t₂ t₃ t₄ l r h k e₁ e₂ e₃ e₄ = rw (e₄, e₃, e₂, e₁, numeral_decimal l h, numeral_decimal r k) (simp append_assoc)
+
+-- A text with the line of the count more.
+pub count_printed : (n : ℕ) → n ≤ 64 → length (count_text n) ≡ 3 + length (decimal n)
+count_printed n h = omega (arith, length-append (numeral n) (10 ∷ []), ap length (numeral_decimal n (omega arith)))
+
+pub by_count : (t₀ t₁ t₂ t₃ : List ℕ) (n : ℕ) → n ≤ 64 → t₁ ≡ t₀ ++ (75 ∷ 32 ∷ []) → t₂ ≡ t₁ ++ decimal n → t₃ ≡ t₂ ++ (10 ∷ [])
+    → t₃ ≡ t₀ ++ count_text n
+by_count t₀ t₁ t₂ t₃ n h e₁ e₂ e₃ = let k : n < 1000000 = omega arith in rw (e₃, e₂, e₁, numeral_decimal n k) (simp append_assoc)
 
 pub count_length : (n : ℕ) → n ≤ 64 → length (numeral n) ≤ 2
 count_length n h = numeral_short 2 n (omega arith) (omega arith) (omega arith)
@@ -81,12 +65,6 @@ length_amounts : (p : Part) → Small p → length (amounts_text p) ≤ 13
 length_amounts p s =
     omega (arith, pair_length p.cost p.window, numeral_short 6 p.cost (omega arith) (omega arith) (omega arith), numeral_short 6 p.window (omega arith) (omega arith) (omega arith))
 
-pub place_short : (p : Part) → writable p ≡ true → length (32 ∷ place_text p) ≤ 5
-place_short p e = omega (arith, length_place p (small p e))
-
-pub amounts_short : (p : Part) → writable p ≡ true → length (32 ∷ amounts_text p) ≤ 14
-amounts_short p e = omega (arith, length_amounts p (small p e))
-
 -- One item more.
 pub listed_more : (f : Part → List ℕ) (ps : List Part) (i : ℕ) → i < length ps → listed f (take (i + 1) ps) ≡ listed f (take i ps) ++ (32 ∷ f (get_or ps i no_part))
 listed_more f [] i h = absurd (omega (arith, h))
@@ -116,12 +94,38 @@ line_all f ps i x t₀ t₁ t₂ t₃ h e₁ e₂ e₃ =
     ∙ ap (λ (l : List ℕ). t₁ ++ l) (sym (items_listed f ps))
     ∙ ap (λ (l : List ℕ). l ++ items_text f ps) e₁ ∙ append_assoc t₀ (x ∷ []) (items_text f ps)
 
--- There is room for the next part.
-pub place_room : (p : Part) (len : ℕ) → writable p ≡ true → len + 5 ≤ 1225 → (p.task < 1000000) × ((p.processor < 1000000) × (len + length (32 ∷ place_text p) ≤ 1225))
-place_room p len e h = let s = small p e in (omega (arith, s.task), (omega (arith, s.processor), omega (arith, place_short p e, h)))
+-- Where there is room for a line, there is for its next item and for its end.
+pub item_room : (f : Part → List ℕ) (ps : List Part) (i : ℕ) → i < length ps
+    → length (listed f (take i ps)) + length (32 ∷ f (get_or ps i no_part)) + 1 ≤ length (items_text f ps)
+item_room f [] i h = absurd (omega (arith, h))
+item_room f (p ∷ ps) zero h = omega (arith, length-append (f p) (items_text f ps), end_room f ps)
+  where
+    end_room : (f : Part → List ℕ) (ps : List Part) → 1 ≤ length (items_text f ps)
+    end_room f [] = omega arith
+    end_room f (p ∷ ps) = omega arith
+item_room f (p ∷ ps) (suc i) h =
+    omega (arith, length-append (f p) (items_text f ps), length-append (f p) (listed f (take i ps)), item_room f ps i (omega arith))
 
-pub amounts_room : (p : Part) (len : ℕ) → writable p ≡ true → len + 14 ≤ 1225 → (p.cost < 1000000) × ((p.window < 1000000) × (len + length (32 ∷ amounts_text p) ≤ 1225))
-amounts_room p len e h = let s = small p e in (omega (arith, s.cost), (omega (arith, s.window), omega (arith, amounts_short p e, h)))
+pub all_room : (f : Part → List ℕ) (ps : List Part) → length (listed f ps) + 1 ≡ length (items_text f ps)
+all_room f ps = sym (ap length (items_listed f ps) ∙ length-append (listed f ps) (10 ∷ []))
+
+module _ (line : Line) (ps : List Part) (i : ℕ) (before started now : List ℕ) (room : length before + length (line_text line ps) ≤ 1225)
+    (starts : started ≡ before ++ (letter_of line ∷ [])) (so_far : now ≡ started ++ listed (λ p. pair_shown (pair_of line p)) (take i ps)) where
+  pub item_fits : i < length ps → length now + length (32 ∷ pair_shown (pair_of line (get_or ps i no_part))) ≤ 1225
+  item_fits h =
+      let f : Part → List ℕ = λ p. pair_shown (pair_of line p) in
+      omega (arith, item_room f ps i h, grown started before (letter_of line ∷ []) starts, grown now started (listed f (take i ps)) so_far)
+
+  pub end_fits : length ps ≤ i → length now + 1 ≤ 1225
+  end_fits h =
+      let f : Part → List ℕ = λ p. pair_shown (pair_of line p) in
+      omega (
+        arith,
+        all_room f ps,
+        ap (λ (qs : List Part). length (listed f qs)) (take_all i ps h),
+        grown started before (letter_of line ∷ []) starts,
+        grown now started (listed f (take i ps)) so_far,
+      )
 
 -- How long the lines are.
 pub count_line_short : (n : ℕ) → n ≤ 64 → length (75 ∷ 32 ∷ (numeral n ++ (10 ∷ []))) ≤ 5
@@ -137,7 +141,34 @@ amounts_line_short [] w = omega arith
 amounts_line_short (p ∷ ps) w =
     omega (arith, length-append (amounts_text p) (items_text amounts_text ps), length_amounts p (small p (w 0 (omega arith))), amounts_line_short ps (λ i h. w (suc i) (omega arith)))
 
--- The three lines are the text of the plan.
-pub by_lines : (ps : List Part) (t₀ t₁ t₂ t₃ : List ℕ) → t₀ ≡ [] → t₁ ≡ t₀ ++ (75 ∷ 32 ∷ (numeral (length ps) ++ (10 ∷ []))) → t₂ ≡ t₁ ++ (80 ∷ items_text place_text ps)
-    → t₃ ≡ t₂ ++ (65 ∷ items_text amounts_text ps) → t₃ ≡ plan_text ps
-by_lines ps t₀ t₁ t₂ t₃ e₀ e₁ e₂ e₃ = rw (e₃, e₂, e₁, e₀) (simp append_assoc)
+-- There is room for all three lines.
+pub places_fit_in : (ps : List Part) (t₀ t₁ : List ℕ) → ((i : ℕ) → i < length ps → writable (get_or ps i no_part) ≡ true) → length ps ≤ 64
+    → t₀ ≡ [] → t₁ ≡ t₀ ++ count_text (length ps) → length t₁ + length (line_text Places ps) ≤ 1225
+places_fit_in ps t₀ t₁ w few e₀ e₁ =
+    omega (arith, ap length e₀, grown t₁ t₀ (count_text (length ps)) e₁, count_line_short (length ps) few, places_line_short ps w)
+
+pub amounts_fit_in : (ps : List Part) (t₀ t₁ t₂ : List ℕ) → ((i : ℕ) → i < length ps → writable (get_or ps i no_part) ≡ true) → length ps ≤ 64
+    → t₀ ≡ [] → t₁ ≡ t₀ ++ count_text (length ps) → t₂ ≡ t₁ ++ line_text Places ps → length t₂ + length (line_text Amounts ps) ≤ 1225
+amounts_fit_in ps t₀ t₁ t₂ w few e₀ e₁ e₂ =
+    omega (
+      arith,
+      ap length e₀,
+      grown t₁ t₀ (count_text (length ps)) e₁,
+      count_line_short (length ps) few,
+      grown t₂ t₁ (line_text Places ps) e₂,
+      places_line_short ps w,
+      amounts_line_short ps w,
+    )
+
+-- What is not writable first, by a search over the parts and over their numbers.
+from_position : (ps qs : List Part) (a : ℕ) → ((k : ℕ) → k < length qs → get_or qs k no_part ≡ get_or ps (a + k) no_part)
+    → position_from (λ p. not (writable p)) a qs ≡ first_from (unwritable ps) a (length qs)
+from_position ps [] a h = refl
+from_position ps (q ∷ qs) a h =
+    let here : q ≡ get_or ps a no_part = h 0 (omega arith) ∙ ap (λ (k : ℕ). get_or ps k no_part) (omega arith) in
+    ap₂ (λ (t : Bool) (r : Option ℕ). cond t (Some a) r) (ap (λ (p : Part). not (writable p)) here)
+    (ap (λ (n : ℕ). position_from (λ p. not (writable p)) n qs) (omega arith)
+    ∙ from_position ps qs (suc a) (λ k l. h (suc k) (omega arith) ∙ ap (λ (n : ℕ). get_or ps n no_part) (omega arith)))
+
+pub first_unwritable_at : (ps : List Part) → position (λ p. not (writable p)) ps ≡ first_where (unwritable ps) (length ps)
+first_unwritable_at ps = position_from-zero (λ p. not (writable p)) ps ∙ from_position ps ps 0 (λ k l. ap (λ (n : ℕ). get_or ps n no_part) (omega arith))

@@ -1,22 +1,35 @@
 -- What the readers answer to the bytes that they are given.
-use Rattle.std.specs.Prelude.{◌≡◌, List, take, Ok, Err, Result}
+use Rattle.std.specs.Prelude.{◌≡◌, ℕ, true, false, List, length, Ok, Err, Result, nat_lt}
 use Rattle.schedule.specs.declared.Part.{Part}
+use Rattle.sheet.specs.declared.cursor.Cursor.{Cursor}
 use Rattle.sheet.specs.declared.fault.SheetFault.{SheetFault}
+use Rattle.sheet.specs.declared.fault.SheetFault.TheVariants.{Overlong}
+use Rattle.sheet.specs.Reading.{told}
 use Rattle.tasks.specs.declared.fault.SetFault.{SetFault}
 use Rattle.tasks.specs.declared.fault.SetFault.TheVariants as SetFaults
 use Rattle.tasks.specs.Sets.{Made}
 use Rattle.parts.specs.declared.fault.PlanFault.{PlanFault}
 use Rattle.parts.specs.declared.fault.PlanFault.TheVariants as PlanFaults
 use Rattle.parts.specs.declared.lists.Proposal.{Proposal}
-use Rattle.parts.specs.declared.lists.PartList.{PartList}
+use Rattle.parts.specs.Parts.{PartList}
+use Rattle.parts.specs.Fixed.{elements}
 use Rattle.parts.specs.Parts.{plan_of, parts_of}
 use Rattle.sheets.specs.declared.drafts.TaskDraft.{TaskDraft}
 use Rattle.sheets.specs.declared.TaskSheet.{TaskSheet}
-use Rattle.sheets.specs.Grammar.{Tasks}
+use Rattle.sheets.specs.Grammar.{Tasks, closed}
+
+-- What a run of a reader from the start of a whole input comes to: the input is too long, or what the run gave holds, if it ends
+-- with the input.
+abbrev pub ReadsWhole : {A : Type 0} → (Cursor → Result A SheetFault → Cursor → Type 0) → List ℕ → Result A SheetFault → Type 0
+ReadsWhole {A} runs bytes result =
+    (nat_lt 4096 (length bytes) ≡ true → result ≡ Err Overlong)
+    × (nat_lt 4096 (length bytes) ≡ false →
+    (start last : Cursor) × (r : Result A SheetFault) × (start.at ≡ 0) × (start.rest.now ≡ bytes) × runs start r last
+    × (result ≡ closed (told r last.at last.rest.now)))
 
 -- What a draft holds.
 abbrev pub drafted : TaskDraft → Tasks
-drafted d = record { processors = d.processors; periods = take d.count d.periods; costs = take d.count d.costs }
+drafted d = record { processors = d.processors; periods = elements d.periods; costs = elements d.costs }
 
 -- A task sheet is what its lines make, once the set is made.
 abbrev pub SheetOf : Tasks → Result TaskSheet SetFault → Type 0

@@ -8,6 +8,7 @@ use Rattle.sheet.specs.declared.symbol.Stop.{Stop}
 use Rattle.sheet.specs.declared.symbol.Stop.TheVariants.{Slash, Space, LineFeed}
 use Rattle.sheet.specs.Reading.{Read, got, bad, next, expected, number}
 use Rattle.sheets.specs.declared.lines.Pair.{Pair}
+use Rattle.sheets.specs.declared.lines.PairLimits.{PairLimits}
 
 abbrev pub limits : ℕ → ℕ → Limits
 limits least most = record { least = least; most = most }
@@ -25,31 +26,31 @@ next_stop (suc left) = Space
 abbrev pub after : {A : Type 0} → List A → Read (List A) → Read (List A)
 after items r = next r (λ more at xs. got (items ++ more) at xs)
 
--- The numbers of a line after its letter, one for each of these limits: every one follows a space, and a line feed ends them.
-abbrev pub numbers : List Limits → ℕ → List ℕ → Read (List ℕ)
-numbers [] at xs = next (expected 10 at xs) (λ _ at xs. got [] at xs)
-numbers (l ∷ ls) at xs =
+-- The items of a line after its letter, one for each of these limits: every one follows a space, and a line feed ends them.
+abbrev pub items : {W A : Type 0} → (W → Stop → ℕ → List ℕ → Read A) → List W → ℕ → List ℕ → Read (List A)
+items item [] at xs = next (expected 10 at xs) (λ _ at xs. got [] at xs)
+items item (w ∷ ws) at xs =
     next (expected 32 at xs) (λ _ at xs.
-    next (number l (next_stop (length ls)) at xs) (λ v at xs.
-    next (numbers ls at xs) (λ vs at xs. got (v ∷ vs) at xs)))
+    next (item w (next_stop (length ws)) at xs) (λ v at xs.
+    next (items item ws at xs) (λ vs at xs. got (v ∷ vs) at xs)))
+
+-- The numbers of a line.
+abbrev pub numbers : List Limits → ℕ → List ℕ → Read (List ℕ)
+numbers = items number
 
 abbrev pub none : Pair
 none = record { left = 0; right = 0 }
 
 -- Two numbers with a slash between them, and the stop after them.
-abbrev pub pair : Limits → Limits → Stop → ℕ → List ℕ → Read Pair
-pair left right stop at xs =
-    next (number left Slash at xs) (λ v at xs.
+abbrev pub pair_within : PairLimits → Stop → ℕ → List ℕ → Read Pair
+pair_within w stop at xs =
+    next (number w.left Slash at xs) (λ v at xs.
     next (expected 47 at xs) (λ _ at xs.
-    next (number right stop at xs) (λ w at xs. got (record { left = v; right = w }) at xs)))
+    next (number w.right stop at xs) (λ w at xs. got (record { left = v; right = w }) at xs)))
 
--- So many pairs of a line after its letter: every one follows a space, and a line feed ends them.
+-- So many pairs of a line.
 abbrev pub pairs : Limits → Limits → ℕ → ℕ → List ℕ → Read (List Pair)
-pairs left right zero at xs = next (expected 10 at xs) (λ _ at xs. got [] at xs)
-pairs left right (suc n) at xs =
-    next (expected 32 at xs) (λ _ at xs.
-    next (pair left right (next_stop n) at xs) (λ p at xs.
-    next (pairs left right n at xs) (λ ps at xs. got (p ∷ ps) at xs)))
+pairs left right n = items pair_within (replicate n (record { left = left; right = right }))
 
 -- The limits of the numbers on the line of a letter, where the sheet has n tasks: T has the counts of tasks and of processors,
 -- K the count of parts, P and C a period or a cost for each task. 84, 75, 80 and 67 are the letters' codes.

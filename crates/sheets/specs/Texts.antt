@@ -1,28 +1,42 @@
 -- The text of a plan: what is written of it.
-use Rattle.std.specs.Prelude.{ℕ, Bool, cond, not, ◌&&◌, List, [], ◌∷◌, ◌++◌, length, take, drop, Some, None, Ok, Err, Option, Result, nat_le, nat_lt, slice_index_or}
+use Rattle.std.specs.Prelude.{ℕ, Bool, cond, not, ◌&&◌, List, [], ◌∷◌, ◌++◌, length, drop, Some, None, Ok, Err, Option, Result, nat_le, nat_lt, slice_index_or}
 use Rattle.tasks.specs.Searches.{first_where}
 use Rattle.parts.specs.declared.fault.PlanFault.{PlanFault}
 use Rattle.parts.specs.declared.fault.PlanFault.TheVariants.{OffScale, Cramped}
 use Rattle.sheet.specs.Numerals.{numeral}
 use Rattle.schedule.specs.declared.Part.{Part}
+use Rattle.sheets.specs.declared.lines.Pair.{Pair}
 use Rattle.sheets.specs.declared.text.Text.{Text}
+use Rattle.sheets.specs.declared.text.Line.{Line}
+use Rattle.sheets.specs.declared.text.Line.TheVariants.{Places, Amounts}
 use Rattle.sheets.specs.Grammar.{Tasks}
 use Rattle.tasks.specs.Sets.{on_scale}
 
 abbrev pub text_of : Text → List ℕ
-text_of t = take t.count t.bytes
+text_of t = t.written.bytes
 
 -- Two numbers with a slash between them.
 abbrev pub pair_text : ℕ → ℕ → List ℕ
 pair_text left right = numeral left ++ (47 ∷ numeral right)
 
--- Where a part runs: its task and its processor.
-abbrev pub place_text : Part → List ℕ
-place_text p = pair_text p.task p.processor
+abbrev pub pair_shown : Pair → List ℕ
+pair_shown p = pair_text p.left p.right
 
--- How long a part runs: its cost and its window.
+-- What a line has for a part: where it runs, its task and its processor, or how long, its cost and its window.
+abbrev pub pair_of : Line → Part → Pair
+pair_of Places p = record { left = p.task; right = p.processor }
+pair_of Amounts p = record { left = p.cost; right = p.window }
+
+abbrev pub place_text : Part → List ℕ
+place_text p = pair_shown (pair_of Places p)
+
 abbrev pub amounts_text : Part → List ℕ
-amounts_text p = pair_text p.cost p.window
+amounts_text p = pair_shown (pair_of Amounts p)
+
+-- The character that a line starts with: P or A.
+abbrev pub letter_of : Line → ℕ
+letter_of Places = 80
+letter_of Amounts = 65
 
 -- The items of a line after its letter: each follows a space, and a line feed ends them.
 abbrev pub items_text : {A : Type 0} → (A → List ℕ) → List A → List ℕ
@@ -33,6 +47,14 @@ items_text f (p ∷ ps) = 32 ∷ (f p ++ items_text f ps)
 abbrev pub listed : (Part → List ℕ) → List Part → List ℕ
 listed f [] = []
 listed f (p ∷ ps) = 32 ∷ (f p ++ listed f ps)
+
+-- The line of the count of the parts.
+abbrev pub count_text : ℕ → List ℕ
+count_text n = 75 ∷ 32 ∷ (numeral n ++ (10 ∷ []))
+
+-- A line with a pair for each part.
+abbrev pub line_text : Line → List Part → List ℕ
+line_text line ps = letter_of line ∷ items_text (λ p. pair_shown (pair_of line p)) ps
 
 -- The text of a plan: the count of its parts, their places, and their amounts.
 abbrev pub plan_text : List Part → List ℕ

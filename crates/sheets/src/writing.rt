@@ -25,12 +25,7 @@ fn is_writable(part: &Part) -> bool
 fn first_unwritable(parts: &[Part]) -> Option<usize>
     ensures { result ≡ first_where (unwritable parts.now) (length parts.now) }
 {
-    for i in 0..parts.len() {
-        if !is_writable(&parts[i]) {
-            return Some(i);
-        }
-    }
-    None
+    parts.iter().position(|part| !is_writable(part))
 }
 
 // Writes the plan sheet to the front of the buffer, and answers its length. What is written would be read back as the plan.

@@ -2,7 +2,7 @@ pub mod Example
 pub mod Filling
 pub mod Keeping
 pub mod Laws
-pub mod Listing
+pub mod Least
 pub mod Reserves
 pub mod Rounding
 pub mod Scans

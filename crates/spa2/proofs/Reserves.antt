@@ -1,7 +1,6 @@
 -- The numbers in reserve, once the front one is taken.
 use Rattle.std.proofs.Common.{◌≡◌, ℕ, suc, ◌<◌, List, ◌∷◌, length, get_or, Some, None, Option, ap, subst, arith}
 use Rattle.front.specs.Fronts.{Taken}
-use Rattle.spa2.specs.Placing.{others}
 
 -- Each number of the list is below m.
 abbrev pub Known : ℕ → List ℕ → Type 0
@@ -13,6 +12,3 @@ taken_known m old new (Some p) e h k l = subst (λ (ps : List ℕ). Known m ps) 
 
 pub front_known : (m : ℕ) (old new : List ℕ) (p : ℕ) → old ≡ p ∷ new → Known m old → p < m
 front_known m old new p e h = subst (λ (ps : List ℕ). Known m ps) e h 0 (omega arith)
-
-pub others_taken : (old new : List ℕ) (p : ℕ) → old ≡ p ∷ new → others old ≡ new
-others_taken old new p e = ap (λ (ps : List ℕ). others ps) e

@@ -1,6 +1,5 @@
 -- Loads are rounded up and cuts are rounded down, so that a cut never loads a processor beyond its threshold.
-use Rattle.std.proofs.Common.{◌≡◌, ℕ, ◌+◌, ◌-◌, ◌*◌, ◌/◌, ◌%◌, ◌<◌, ◌≤◌, min, ap, inl, inr, mul-le-mul_right, mod-lt, add-mul, mul-le-mul, div-add-mod', le-div_iff_mul-le, div-mul-le_self, arith}
-use native.Mathlib.Nat.{div-le_of_le-mul}
+use Rattle.std.proofs.Common.{◌≡◌, ℕ, ◌+◌, ◌-◌, ◌*◌, ◌/◌, ◌%◌, ◌<◌, ◌≤◌, min, ap, inl, inr, mul-le-mul_right, mod-lt, add-mul, div-add-mod', le-div_iff_mul-le, div-mul-le_self, arith}
 use Rattle.std.proofs.lemmas.Bool.{cases_lt, cases_order, cases_eq}
 use Rattle.spa2.specs.Loads.{load_of, cut_of}
 
@@ -36,14 +35,6 @@ load_at_most cost T d p h = up_bounded (cost * 1000000) T d p h
 pub load_most : (cost T d : ℕ) → 1 ≤ T → load_of cost T ≤ d → cost * 1000000 ≤ d * T
 load_most cost T d p h = up_bounds (cost * 1000000) T d p h
 
--- No task of a set takes more than a whole processor.
-pub load_whole : (cost T : ℕ) → 1 ≤ T → cost ≤ T → load_of cost T ≤ 1000000
-load_whole cost T p h = load_at_most cost T 1000000 p (omega arith)
-
--- In ticks, a load is no more than its cost.
-pub load_crude : (cost T : ℕ) → 1 ≤ T → load_of cost T ≤ cost * 1000000
-load_crude cost T p = load_at_most cost T (cost * 1000000) p (let more : cost * 1000000 * 1 ≤ cost * 1000000 * T = let le : cost * 1000000 ≤ cost * 1000000 = omega arith in mul-le-mul le p in omega arith)
-
 -- A cut loads its processor no further than the threshold.
 pub cut_fits : (theta load T : ℕ) → 1 ≤ T → load_of (cut_of theta load T) T ≤ theta - load
 cut_fits theta load T p = load_at_most (cut_of theta load T) T (theta - load) p (div-mul-le_self ((theta - load) * T) 1000000)
@@ -63,12 +54,6 @@ cut_leaves theta load cost T p h one =
 pub load_some : (cost T : ℕ) → 1 ≤ T → 1 ≤ cost → 1 ≤ load_of cost T
 load_some cost T p h =
     elim (cases_lt 0 (load_of cost T)) [ inl l ↦ l | inr g ↦ absurd (let none = load_most cost T 0 p g in omega arith) ]
-
--- A cut is no longer than a period.
-pub cut_bounded : (theta load T : ℕ) → theta ≤ 1000000 → cut_of theta load T ≤ T
-cut_bounded theta load T h =
-    let le : (theta - load) * T ≤ 1000000 * T = let less : theta - load ≤ 1000000 = omega arith in mul-le-mul_right T less in
-    div-le_of_le-mul 1000000 {m = (theta - load) * T} {n = T} le
 
 -- A piece that does not fit whole is at least its cut.
 pub cut_within : (theta load cost T : ℕ) → 1 ≤ T → theta < load + load_of cost T → cut_of theta load T ≤ cost

@@ -20,31 +20,6 @@ scan_more xs best i d h =
 pub scan_all : (xs : List Processor) (best : Option Seat) (i : ℕ) → length xs ≤ i → best_from best i (drop i xs) ≡ best
 scan_all xs best i h = ap (λ (l : List Processor). best_from best i l) (drop_all i xs h)
 
--- What the search finds is one of the open processors.
-abbrev Found : List Processor → Option Seat → Type 0
-Found xs None = Unit {0}
-Found xs (Some seat) = (seat.number < length xs) × (is_open (get_or xs seat.number idle).standing ≡ true)
-
-better_found : (xs : List Processor) (best : Option Seat) (seat : Seat) → Found xs best → Found xs (Some seat) → Found xs (better best seat)
-better_found xs None seat b h = h
-better_found xs (Some old) seat b h = cond_both (leb old.load seat.load) (Some old) (Some seat) (λ o. Found xs o) (λ e. b) (λ e. h)
-
-considered_found : (xs : List Processor) (best : Option Seat) (k : ℕ) → k < length xs → Found xs best → Found xs (considered best k (get_or xs k idle))
-considered_found xs best k h b =
-    let x = get_or xs k idle in
-    let seat : Seat = record { number = k; load = x.load } in
-    cond_both (is_open x.standing) (better best seat) best (λ o. Found xs o) (λ e. better_found xs best seat b (h, e)) (λ e. b)
-
--- n processors are still to be looked at, from number k on
-best_found : (n : ℕ) (xs : List Processor) (best : Option Seat) (k : ℕ) → k + n ≡ length xs → Found xs best → Found xs (best_from best k (drop k xs))
-best_found zero xs best k e b = subst (λ (o : Option Seat). Found xs o) (sym (scan_all xs best k (omega arith))) b
-best_found (suc n) xs best k e b =
-    subst (λ (o : Option Seat). Found xs o) (sym (scan_more xs best k idle (omega arith)))
-    (best_found n xs (considered best k (get_or xs k idle)) (k + 1) (omega arith) (considered_found xs best k (omega arith) b))
-
-pub least_found : (xs : List Processor) (seat : Seat) → least_loaded_seat xs ≡ Some seat → (seat.number < length xs) × (is_open (get_or xs seat.number idle).standing ≡ true)
-least_found xs seat e = subst (λ (o : Option Seat). Found xs o) e (best_found (length xs) xs None 0 (omega arith) tt)
-
 -- The best of the first k processors.
 abbrev Best : List Processor → ℕ → Option Seat → Type 0
 Best xs k None = (j : ℕ) → j < k → is_open (get_or xs j idle).standing ≡ false
@@ -133,3 +108,7 @@ least_open xs = go (least_loaded_seat xs) (best_all (length xs) xs None 0 (omega
     go : (o : Option Seat) → Best xs (length xs) o → LeastOpen xs o
     go None h = h
     go (Some seat) h = h
+
+-- What it finds is one of the open processors.
+pub least_found : (xs : List Processor) (seat : Seat) → least_loaded_seat xs ≡ Some seat → (seat.number < length xs) × (is_open (get_or xs seat.number idle).standing ≡ true)
+least_found xs seat e = let found = subst (λ (o : Option Seat). LeastOpen xs o) e (least_open xs) in (found.0, found.1)

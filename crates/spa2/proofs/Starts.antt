@@ -1,29 +1,26 @@
 -- From an empty start to the placed parts, and from those to the plan.
-use Rattle.std.proofs.Common.{◌≡◌, ℕ, zero, suc, ◌+◌, ◌-◌, ◌≤◌, Bool, cond, ◌||◌, eqb, ltb, List, [], ◌∷◌, ◌++◌, length, take, replicate, IfErr, Some, Ok, Err, Option, Result, sym, refl, ap, ◌∙◌, inl, inr, arith, length-append}
-use Rattle.std.proofs.lemmas.List.{length-replicate}
-use Rattle.std.proofs.lemmas.Bool.{cases_Bool, and_from, le-leb, ne_eqb, le-ltb, both_ways, or_from}
+use Rattle.std.proofs.Common.{◌≡◌, ℕ, ◌+◌, ◌-◌, ◌≤◌, Bool, cond, ◌||◌, eqb, ltb, List, [], ◌∷◌, ◌++◌, length, take, replicate, IfErr, Some, Ok, Err, Option, Result, sym, refl, ap, ◌∙◌, arith, length-append}
+use Rattle.std.proofs.lemmas.List.{length-replicate, take-replicate}
+use Rattle.std.proofs.lemmas.Bool.{and_from, le-leb, ne_eqb, le-ltb, both_ways, or_from}
 use Rattle.schedule.specs.declared.Part.{Part}
 use Rattle.parts.specs.Faults.{shown}
 use Rattle.parts.specs.Parts.{Proposed}
 use Rattle.parts.specs.declared.fault.PlanFault.{PlanFault}
-use Rattle.parts.specs.declared.fault.PlanFault.TheVariants.{Squeezed}
 use Rattle.parts.specs.declared.lists.Proposal.{Proposal}
 use Rattle.spa2.specs.declared.state.Processor.{Processor}
-use Rattle.spa2.specs.Placing.{Tasks, State, started, visited_from, turns, parts_placed, weight}
+use Rattle.spa2.specs.Placing.{Tasks, State, started, visited_from, turns, parts_placed, weight, Visiting}
 use Rattle.spa2.specs.Plans.{answered, refusal_of, finished, finished_if, spa2}
-use Rattle.spa2.specs.Windows.{with_own_window, window_of, windowed_from}
-use Rattle.spa2.proofs.Keeping.{ok_same, err_never, placed_some, visits_keep}
-use Rattle.spa2.proofs.Visits.{Visiting, visited_visiting}
+use Rattle.spa2.specs.Windows.{with_own_window, windowed_from}
+use Rattle.spa2.proofs.Scans.{idle}
+use Rattle.spa2.proofs.Keeping.{ok_same, placed_some, visits_keep}
+use Rattle.spa2.proofs.Windowing.{windowed_next}
+use Rattle.spa2.proofs.Visits.{visited_visiting}
 
--- The first m of n equal entries.
-pub take-replicate : {X : Type 0} (x : X) (m n : ℕ) → m ≤ n → take m (replicate n x) ≡ replicate m x
-take-replicate x zero n h = refl
-take-replicate x (suc m) zero h = absurd (omega arith)
-take-replicate {X} x (suc m) (suc n) h = ap (λ (xs : List X). x ∷ xs) (take-replicate x m n (omega arith))
-
--- The processors that are lent are all open, with no load.
-pub lent_processors : (x : Processor) (m : ℕ) → m ≤ 8 → take (m - 0) (replicate 8 x) ≡ replicate m x
-lent_processors x m h = let e : m - 0 ≡ m = omega arith in ap (λ (k : ℕ). take k (replicate 8 x)) e ∙ take-replicate x m 8 h
+-- A planner over processors that are all open, with no load, has placed nothing.
+pub begun : (m : ℕ) (b : State) → m ≤ 8 → b ≡ record { processors = take (m - 0) (replicate 8 idle); pieces = []; reserve = []; parts = [] } → b ≡ started m
+begun m b h e =
+    let n : m - 0 ≡ m = omega arith in
+    e ∙ ap (λ (xs : List Processor). record { processors = xs; pieces = []; reserve = []; parts = [] }) (ap (λ (k : ℕ). take k (replicate 8 idle)) n ∙ take-replicate m 8 idle h)
 
 -- Visiting all tasks from the start, and then as many turns as there are tasks and processors.
 pub placed_answer : (t : Tasks) (m : ℕ) (a b : State) (X : Result (List Part) PlanFault) → a ≡ started m → b ≡ visited_from t a 0 t.count →
@@ -47,15 +44,9 @@ parts_some t m ps h e =
 pub windowed_length : (t : Tasks) (respond : Part → ℕ → Option ℕ) (rest done qs : List Part) → windowed_from t respond done rest ≡ Ok qs → length qs ≡ length done + length rest
 windowed_length t respond [] done qs e = omega (arith, ap (λ (xs : List Part). length xs) (ok_same done qs e))
 windowed_length t respond (p ∷ rest) done qs e =
-    let w = window_of t respond done p rest in
-    let q = with_own_window p w in
-    elim (cases_Bool (eqb w 0)) [
-      | inl b ↦ absurd (err_never (Squeezed (length done)) qs (rw b at e))
-      | inr b ↦
-          let on : windowed_from t respond (done ++ (q ∷ [])) rest ≡ Ok qs =
-          sym (ap (λ (v : Bool). cond v (Err (Squeezed (length done))) (windowed_from t respond (done ++ (q ∷ [])) rest)) b) ∙ e in
-          omega (arith, windowed_length t respond rest (done ++ (q ∷ [])) qs on, length-append done (q ∷ []))
-    ]
+    let next = windowed_next t respond done p rest qs e in
+    let q = with_own_window p next.0 in
+    omega (arith, windowed_length t respond rest (done ++ (q ∷ [])) qs next.2, length-append done (q ∷ []))
 
 -- A list of 1 to 64 parts is proposed as it is.
 pub proposed_answer : (qs : List Part) (r : Result Proposal PlanFault) → 1 ≤ length qs → length qs ≤ 64 → Proposed qs r → answered r ≡ Ok qs

@@ -4,8 +4,7 @@ use Rattle.schedule.specs.declared.Part.{Part}
 use Rattle.parts.specs.declared.fault.PlanFault.{PlanFault}
 use Rattle.parts.specs.declared.fault.PlanFault.TheVariants.{Unplaced}
 use Rattle.spa2.specs.declared.piece.Piece.{Piece}
-use Rattle.spa2.specs.declared.state.Choice.{Choice}
-use Rattle.spa2.specs.Placing.{Tasks, State, with_pieces, after_choice, chosen, settled, settled_by, turn, turns, closed}
+use Rattle.spa2.specs.Placing.{Tasks, State, with_pieces, turn, turns, closed}
 
 -- What follows a turn with piece x, of k more.
 abbrev pub onward : Tasks → ℕ → Piece → Option State → Result (List Part) PlanFault
@@ -18,13 +17,11 @@ pub turns_done : (t : Tasks) (k : ℕ) (s : State) → s.pieces ≡ [] → turns
 turns_done t zero s e = ap (λ (ps : List Piece). closed ps s.parts) e
 turns_done t (suc k) s e = ap (λ (ps : List Piece). ahead t k s ps) e
 
-pub turns_stuck : (t : Tasks) (k : ℕ) (s : State) (x : Piece) (xs : List Piece) → s.pieces ≡ x ∷ xs → chosen (with_pieces s xs) ≡ None →
+pub turns_stuck : (t : Tasks) (k : ℕ) (s : State) (x : Piece) (xs : List Piece) → s.pieces ≡ x ∷ xs → turn t (with_pieces s xs) x ≡ None →
     turns t k s ≡ Err (Unplaced x.task)
 turns_stuck t zero s x xs e none = ap (λ (ps : List Piece). closed ps s.parts) e
-turns_stuck t (suc k) s x xs e none =
-    ap (λ (ps : List Piece). ahead t k s ps) e ∙ ap (λ (o : Option Choice). onward t k x (settled_by t (with_pieces s xs) x o)) none
+turns_stuck t (suc k) s x xs e none = ap (λ (ps : List Piece). ahead t k s ps) e ∙ ap (λ (o : Option State). onward t k x o) none
 
-pub turns_on : (t : Tasks) (k : ℕ) (s : State) (x : Piece) (xs : List Piece) (c : Choice) → s.pieces ≡ x ∷ xs → chosen (with_pieces s xs) ≡ Some c →
-    turns t (suc k) s ≡ turns t k (settled t (after_choice (with_pieces s xs) c) x c)
-turns_on t k s x xs c e some =
-    ap (λ (ps : List Piece). ahead t k s ps) e ∙ ap (λ (o : Option Choice). onward t k x (settled_by t (with_pieces s xs) x o)) some
+pub turns_on : (t : Tasks) (k : ℕ) (s z : State) (x : Piece) (xs : List Piece) → s.pieces ≡ x ∷ xs → turn t (with_pieces s xs) x ≡ Some z →
+    turns t (suc k) s ≡ turns t k z
+turns_on t k s z x xs e some = ap (λ (ps : List Piece). ahead t k s ps) e ∙ ap (λ (o : Option State). onward t k x o) some

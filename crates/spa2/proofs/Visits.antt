@@ -3,13 +3,7 @@ use Rattle.std.proofs.Common.{◌≡◌, ℕ, zero, suc, ◌+◌, ◌-◌, ◌*�
 use Rattle.std.proofs.lemmas.Bool.{cond_both, and_parts, leb-true}
 use Rattle.spa2.specs.declared.state.Standing.TheVariants.{Reserved}
 use Rattle.spa2.specs.Loads.{heavy}
-use Rattle.spa2.specs.Placing.{Tasks, State, load_at, threshold, followers, free, goes_beforehand, beforehand, pieced, visited, visited_from, placed}
-
--- Of i tasks visited, each is a piece or was placed on a processor of its own, which is in reserve.
-pub record Visiting (s : State) (i : ℕ) : Type 0 where
-  pub listed : length s.parts ≡ length s.reserve
-  pub seated : length s.reserve ≤ length s.processors
-  pub each : length s.pieces + length s.reserve ≡ i
+use Rattle.spa2.specs.Placing.{Tasks, State, load_at, threshold, followers, free, goes_beforehand, beforehand, pieced, visited, visited_from, placed, Visiting}
 
 pub visited_visiting : (t : Tasks) (s : State) (i : ℕ) → Visiting s i → Visiting (visited t s i) (i + 1)
 visited_visiting t s i v =

@@ -1,5 +1,6 @@
 -- What holds of every plan that the planner proposes.
-use Rattle.std.specs.Prelude.{◌≡◌, ℕ, ◌+◌, ◌<◌, ◌≤◌, Bool, true, false, cond, not, ◌&&◌, ◌||◌, List, [], ◌∷◌, ◌++◌, length, None, ◌==◌}
+use Rattle.std.specs.Prelude.{◌≡◌, ℕ, ◌+◌, ◌<◌, ◌≤◌, Bool, true, false, cond, not, ◌&&◌, List, ◌∷◌, ◌++◌, length, None, ◌==◌}
+use Rattle.std.specs.List.{list_any}
 use Rattle.schedule.specs.declared.Part.{Part}
 use Rattle.schedule.specs.Lists.{total}
 use Rattle.tasks.specs.declared.order.TaskKey.{TaskKey}
@@ -16,8 +17,7 @@ is_beforehand t m i = goes_beforehand t (visited_from t (started m) 0 i) i
 
 -- Some part of the list is on processor p.
 abbrev pub has_on : ℕ → List Part → Bool
-has_on p [] = false
-has_on p (q ∷ qs) = q.processor == p || has_on p qs
+has_on p qs = list_any (λ q. q.processor == p) qs
 
 -- What a part adds to the load of processor p, unless its task was placed beforehand.
 abbrev pub load_share : Tasks → (ℕ → Bool) → ℕ → Part → ℕ

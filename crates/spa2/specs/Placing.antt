@@ -1,5 +1,5 @@
 -- SPA2 in whole numbers: how the parts of a task set are placed on processors.
-use Rattle.std.specs.Prelude.{ℕ, zero, suc, ◌+◌, ◌-◌, ◌*◌, Bool, cond, ◌&&◌, List, [], ◌∷◌, ◌++◌, length, replicate, Some, None, Ok, Err, Option, Result, nat_le, slice_index_or, slice_set}
+use Rattle.std.specs.Prelude.{◌≡◌, ℕ, zero, suc, ◌+◌, ◌-◌, ◌*◌, ◌<◌, ◌≤◌, Bool, cond, ◌&&◌, List, [], ◌∷◌, ◌++◌, length, replicate, Some, None, Ok, Err, Option, Result, nat_le, slice_index_or, slice_set}
 use Rattle.schedule.specs.declared.Part.{Part}
 use Rattle.schedule.specs.Lists.{total, one_if}
 use Rattle.parts.specs.declared.fault.PlanFault.{PlanFault}
@@ -50,13 +50,13 @@ pub record State : Type 0 where
 
 -- The same but for the pieces, the reserve or the parts.
 abbrev pub with_pieces : State → List Piece → State
-with_pieces s xs = record { processors = s.processors; pieces = xs; reserve = s.reserve; parts = s.parts }
+with_pieces s xs = record s { pieces = xs }
 
 abbrev pub with_reserve : State → List ℕ → State
-with_reserve s ps = record { processors = s.processors; pieces = s.pieces; reserve = ps; parts = s.parts }
+with_reserve s ps = record s { reserve = ps }
 
 abbrev pub with_parts : State → List Part → State
-with_parts s ps = record { processors = s.processors; pieces = s.pieces; reserve = s.reserve; parts = ps }
+with_parts s ps = record s { parts = ps }
 
 -- Nothing has been placed on m processors.
 abbrev pub started : ℕ → State
@@ -78,21 +78,15 @@ goes_beforehand t s i =
 -- It takes the smallest processor that is not taken, which goes to the front of the reserve. As processors are taken in turn, its
 -- number is that of those taken.
 abbrev pub beforehand : Tasks → State → ℕ → State
-beforehand t s i = record {
+beforehand t s i = record s {
   processors = slice_set s.processors (length s.reserve) (record { load = load_at t i; standing = Reserved });
-  pieces = s.pieces;
   reserve = length s.reserve ∷ s.reserve;
   parts = s.parts ++ (placed i (length s.reserve) (t.cost i) ∷ []);
 }
 
 -- Every other task goes to the front of the pieces.
 abbrev pub pieced : Tasks → State → ℕ → State
-pieced t s i = record {
-  processors = s.processors;
-  pieces = record { task = i; cost = t.cost i } ∷ s.pieces;
-  reserve = s.reserve;
-  parts = s.parts;
-}
+pieced t s i = record s { pieces = record { task = i; cost = t.cost i } ∷ s.pieces }
 
 abbrev pub visited : Tasks → State → ℕ → State
 visited t s i = cond (goes_beforehand t s i) (beforehand t s i) (pieced t s i)
@@ -101,6 +95,12 @@ visited t s i = cond (goes_beforehand t s i) (beforehand t s i) (pieced t s i)
 abbrev pub visited_from : Tasks → State → ℕ → ℕ → State
 visited_from t s i zero = s
 visited_from t s i (suc n) = visited_from t (visited t s i) (i + 1) n
+
+-- Of i tasks visited, each is a piece or was placed on a processor of its own, which is in reserve.
+pub record Visiting (s : State) (i : ℕ) : Type 0 where
+  pub listed : length s.parts ≡ length s.reserve
+  pub seated : length s.reserve ≤ length s.processors
+  pub each : length s.pieces + length s.reserve ≡ i
 
 -- Step 2: a piece goes to the least loaded open processor, and where there is none to the front of the reserve.
 abbrev pub front_of : List ℕ → Option Choice
@@ -132,6 +132,13 @@ abbrev pub returned : Choice → List ℕ → List ℕ
 returned (Normal p) ps = ps
 returned (Spare p) ps = p ∷ ps
 
+-- A piece can be placed on the chosen processor: it is there, and there is room for a part, for what a cut leaves, and in reserve.
+pub record Ready (s : State) (c : Choice) : Type 0 where
+  pub known : number_of c < length s.processors
+  pub listable : length s.parts < 64
+  pub cuttable : length s.pieces < 32
+  pub returnable : length (returned c s.reserve) ≤ 8
+
 -- A processor of a state; past the last there is one with no load.
 abbrev pub processor_at : State → ℕ → Processor
 processor_at s p = slice_index_or s.processors p (record { load = 0; standing = Open })
@@ -143,9 +150,8 @@ fits_whole t s x p = nat_le ((processor_at s p).load + load_of x.cost (t.period 
 abbrev pub whole : Tasks → State → Piece → Choice → State
 whole t s x c =
     let p = number_of c in
-    record {
-      processors = slice_set s.processors p (record { load = (processor_at s p).load + load_of x.cost (t.period x.task); standing = (processor_at s p).standing });
-      pieces = s.pieces;
+    record s {
+      processors = slice_set s.processors p (record (processor_at s p) { load = (processor_at s p).load + load_of x.cost (t.period x.task) });
       reserve = returned c s.reserve;
       parts = s.parts ++ (placed x.task p x.cost ∷ []);
     }
@@ -161,10 +167,9 @@ with_cut task p c ps = cond (nat_le 1 c) (ps ++ (placed task p c ∷ [])) ps
 abbrev pub split : Tasks → State → Piece → Choice → State
 split t s x c =
     let p = number_of c in
-    record {
+    record s {
       processors = slice_set s.processors p (record { load = (processor_at s p).load + load_of (cut_at t s x p) (t.period x.task); standing = Full });
-      pieces = record { task = x.task; cost = x.cost - cut_at t s x p } ∷ s.pieces;
-      reserve = s.reserve;
+      pieces = record x { cost = x.cost - cut_at t s x p } ∷ s.pieces;
       parts = with_cut x.task p (cut_at t s x p) s.parts;
     }
 

@@ -11,7 +11,7 @@ use Rattle.tasks.specs.declared.order.TaskKey.{TaskKey}
 use Rattle.tasks.specs.declared.set.TaskSet.{TaskSet}
 use Rattle.parts.specs.declared.fault.PlanFault.{PlanFault}
 use Rattle.parts.specs.declared.fault.PlanFault.TheVariants.{Set}
-use Rattle.parts.specs.declared.lists.PartList.{PartList}
+use Rattle.parts.specs.Parts.{PartList}
 use Rattle.parts.specs.declared.lists.Proposal.{Proposal}
 use Rattle.sheet.specs.declared.fault.Refusal.{Refusal}
 use Rattle.parts.specs.Faults.{shown}

@@ -1,8 +1,9 @@
 // Loads: how much of a processor a cost takes, in millionths.
 ghost use Rattle.std.specs.Prelude.{◌≡◌, ◌*◌, ◌≤◌};
 ghost use Rattle.spa2.specs.Loads.{load_of, heavy, cut_of};
-ghost use Rattle.spa2.specs.Placing.{load_at, tasks_of};
+ghost use Rattle.spa2.specs.Placing.{load_at, tasks_of, threshold};
 
+use crate::theta::theta;
 use tasks::set::TaskSet;
 
 // A whole processor.
@@ -14,7 +15,7 @@ pub(crate) fn load(cost: u32, period: u32) -> u64
     ensures value { result ≡ load_of cost period }
     ensures bound { result ≤ cost * 1000000 }
 {
-    (cost as u64 * WHOLE).div_ceil(period as u64)
+    (u64::from(cost) * WHOLE).div_ceil(u64::from(period))
 }
 
 // Whether a load is so large that its task may be placed beforehand.
@@ -31,13 +32,23 @@ pub(crate) fn cut_cost(load: u64, theta: u64, period: u32) -> u32
     requires { theta ≤ 1000000 }
     ensures { result ≡ cut_of theta load period }
 {
-    (theta.saturating_sub(load) * period as u64 / WHOLE) as u32
+    // `as`: a part of a period is proved to fit; a TryFrom would bring an error that cannot come
+    (theta.saturating_sub(load) * u64::from(period) / WHOLE) as u32
 }
 
 // The load of a task of the set; 0 past its tasks.
+#[tactic(auto, using(crate::proofs::Steps::load_at_whole))]
 pub fn task_load(set: &TaskSet, task: usize) -> u64
     ensures value { result ≡ load_at (tasks_of set.now) task }
     ensures bound { result ≤ 1000000 }
 {
     load(set.cost(task), set.period(task))
+}
+
+// The load that a processor is filled up to, for the tasks of a set.
+pub(crate) fn threshold_of(set: &TaskSet) -> u64
+    ensures value { result ≡ threshold (tasks_of set.now) }
+    ensures bound { result ≤ 1000000 }
+{
+    theta(set.count())
 }

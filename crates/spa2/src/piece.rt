@@ -1,10 +1,16 @@
 // Pieces of tasks, and what a cut leaves of one.
-ghost use Rattle.std.specs.Prelude.{◌≡◌, ◌-◌, min, ◌∷◌, length, is_ok, IfErr, if◌then◌else◌, nat_lt};
+ghost use Rattle.std.specs.Prelude.{◌≡◌, ◌-◌, ◌*◌, ◌≤◌, min, ◌∷◌, length, is_ok, IfErr, if◌then◌else◌, nat_lt};
 ghost use Rattle.parts.specs.declared.fault.PlanFault.TheVariants.{Unplaced};
+ghost use Rattle.tasks.specs.Sets.{period_of, cost_of};
+ghost use Rattle.spa2.specs.Loads.{load_of};
+ghost use Rattle.spa2.specs.Placing.{placed};
 ghost use Rattle.front.specs.Fronts.{listed, room};
 
+use crate::load::load;
 use front::lists::FrontList;
 use parts::fault::PlanFault;
+use schedule::Part;
+use tasks::set::TaskSet;
 
 // What is yet to be placed of a task: the whole of it, or what a cut has left.
 #[derive(Clone, Copy)]
@@ -20,18 +26,48 @@ pub struct Remainder {
 }
 
 impl Piece {
+    // The whole of a task.
+    pub(crate) fn of_task(set: &TaskSet, task: u8) -> Piece
+        ensures { result ≡ record { task = task; cost = cost_of set.now task } }
+    {
+        Piece {
+            task,
+            cost: set.cost(usize::from(task)),
+        }
+    }
+
+    // The piece as a part on a processor, which gets its window later.
+    pub(crate) fn on(self, processor: u8) -> Part
+        ensures { result ≡ placed self.task processor self.cost }
+    {
+        Part {
+            task: self.task,
+            processor,
+            cost: self.cost,
+            window: 0,
+        }
+    }
+
+    // The load of the piece, in every period of its task.
+    pub(crate) fn load(self, set: &TaskSet) -> u64
+        ensures value { result ≡ load_of self.cost (period_of set.now self.task) }
+        ensures bound { result ≤ self.cost * 1000000 }
+    {
+        load(self.cost, set.period(usize::from(self.task)))
+    }
+
     // Cuts a piece of the cost off, or of all that there is, and leaves the rest.
     pub fn cut(self, cost: u32) -> (Piece, Remainder)
         ensures first { result.0 ≡ record { task = self.task; cost = min self.cost cost } }
         ensures rest { result.1.piece ≡ record { task = self.task; cost = self.cost - cost } }
     {
         let first = Piece {
-            task: self.task,
             cost: self.cost.min(cost),
+            ..self
         };
         let rest = Piece {
-            task: self.task,
             cost: self.cost.saturating_sub(cost),
+            ..self
         };
         (first, Remainder { piece: rest })
     }
@@ -46,10 +82,9 @@ impl Remainder {
         ensures refused { IfErr result (λ rest. rest.piece ≡ self.piece) }
     {
         let Remainder { piece } = self;
-        match pieces.push_front(piece) {
-            Ok(()) => Ok(()),
-            Err(piece) => Err(Remainder { piece }),
-        }
+        pieces
+            .push_front(piece)
+            .map_err(|piece| Remainder { piece })
     }
 
     // Gives the plan up, since the rest of its task has no place.
@@ -58,7 +93,7 @@ impl Remainder {
     {
         let Remainder { piece } = self;
         PlanFault::Unplaced {
-            task: piece.task as usize,
+            task: usize::from(piece.task),
         }
     }
 }

@@ -10,12 +10,13 @@ use crate::piece::Piece;
 use crate::state::{Planner, Processor, Standing};
 use crate::windows::with_windows;
 use parts::fault::PlanFault;
+// callers have always named the limit by this path
 pub use parts::lists::MAX_PROCESSORS;
 use parts::lists::{PartList, Proposal};
 use tasks::arrival::ArrivalRule;
 use tasks::fault::SetFault;
 use tasks::order::PriorityOrder;
-use tasks::set::TaskSet;
+use tasks::set::{MAX_TASKS, TaskSet};
 
 // The parts of the tasks on so many processors, without windows.
 fn placed_parts(set: &TaskSet, count: usize) -> Result<PartList, PlanFault>
@@ -25,9 +26,9 @@ fn placed_parts(set: &TaskSet, count: usize) -> Result<PartList, PlanFault>
     let mut processors = [Processor {
         load: 0,
         standing: Standing::Open,
-    }; 8];
-    let mut pieces = [Piece { task: 0, cost: 0 }; 32];
-    let mut reserve = [0; 8];
+    }; MAX_PROCESSORS];
+    let mut pieces = [Piece { task: 0, cost: 0 }; MAX_TASKS];
+    let mut reserve = [0; MAX_PROCESSORS];
     let mut planner = Planner::new(&mut processors[0..count], &mut pieces, &mut reserve);
     planner.visit_all(set);
     planner.fill(set)?;
@@ -38,10 +39,10 @@ fn placed_parts(set: &TaskSet, count: usize) -> Result<PartList, PlanFault>
 fn checked_count(processors: usize) -> Result<usize, SetFault>
     ensures { Counted processors result }
 {
-    if processors < 1 || processors > MAX_PROCESSORS {
-        return Err(SetFault::OffScale { task: 0 });
+    match processors {
+        1..=MAX_PROCESSORS => Ok(processors),
+        _ => Err(SetFault::OffScale { task: 0 }),
     }
-    Ok(processors)
 }
 
 // The plan of a task set on so many processors, under the order and the rule; a count outside 1 to 8 is refused.

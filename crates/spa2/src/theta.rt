@@ -2,7 +2,7 @@
 ghost use Rattle.std.specs.Prelude.{◌≡◌, ◌≤◌};
 ghost use Rattle.spa2.specs.Thetas.{theta_of, as_counted, Threshold};
 
-// Entry N - 1 is for N tasks.
+// Entry N - 1 is for N tasks. (Constants, since the bound has an N-th root and the planner computes in whole numbers.)
 const THETA: [u64; 32] = [
     1000000, 828427, 779763, 756828, 743491, 734772, 728626, 724061, 720537, 717734, 715451,
     713557, 711958, 710592, 709411, 708380, 707472, 706666, 705945, 705298, 704713, 704182, 703697,

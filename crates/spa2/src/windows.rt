@@ -1,6 +1,5 @@
 // Windows: how long each part may take from its begin.
-ghost use Rattle.std.specs.Prelude.{◌≡◌, ℕ, ◌+◌, ◌*◌, ◌<◌, ◌≤◌, [], length, drop};
-ghost use Rattle.schedule.specs.Layout.{span_of};
+ghost use Rattle.std.specs.Prelude.{◌≡◌, ◌+◌, ◌<◌, length, drop};
 ghost use Rattle.parts.specs.Parts.{parts_of};
 ghost use Rattle.plan.specs.Responses.{response_within};
 ghost use Rattle.plan.specs.Systems.{system};
@@ -10,6 +9,7 @@ ghost use Rattle.spa2.specs.Windows.{has_part, window_of, windowed};
 
 use parts::fault::PlanFault;
 use parts::lists::PartList;
+use plan::numbers::sums;
 use plan::response::response_time;
 use schedule::Part;
 use tasks::arrival::ArrivalRule;
@@ -20,29 +20,11 @@ use tasks::set::TaskSet;
 fn is_listed(parts: &[Part], task: u8) -> bool
     ensures { result ≡ has_part task parts.now }
 {
-    for part in parts {
-        if part.task == task {
-            return true;
-        }
-    }
-    false
+    parts.iter().any(|part| part.task == task)
 }
 
-// The sum of the windows of the task's parts.
-fn span(parts: &[Part], task: u8) -> u64
-    requires { length parts.now ≤ 64 }
-    ensures { result ≡ span_of parts.now task }
-{
-    let mut sum = 0;
-    for part in parts {
-        if part.task == task {
-            sum += part.window as u64;
-        }
-    }
-    sum
-}
-
-// The window of the part at `number` of the parts, where those before it have theirs; 0 where it has none.
+// The window of a part, which stands behind those that are done and have theirs; none if it is not 1 or more.
+// (Set, parts, order and rule stay parameters: `response_time` takes each, so a struct would only be taken apart.)
 fn part_window<O: PriorityOrder, R: ArrivalRule>(
     set: &TaskSet,
     parts: &PartList,
@@ -50,20 +32,21 @@ fn part_window<O: PriorityOrder, R: ArrivalRule>(
     part: Part,
     order: &O,
     rule: &R,
-) -> u32
+) -> Option<u32>
     requires { length (parts_of done.now) < length (parts_of parts.now) }
     ensures { result ≡ window_of (tasks_of set.now) (response_within (system set.now 0 (parts_of parts.now) (O.before order.now) (R.curve rule.now))) (parts_of done.now) part (drop (length (parts_of done.now) + 1) (parts_of parts.now)) }
 {
-    let period = set.period(part.task as usize);
-    let number = done.len();
-    let all = parts.as_slice();
-    if is_listed(&all[number + 1..], part.task) {
-        return response_time(set, parts, part, period, order, rule).unwrap_or(0);
+    let task = usize::from(part.task);
+    let period = set.period(task);
+    if is_listed(&parts.as_slice()[done.len() + 1..], part.task) {
+        return response_time(set, parts, part, period, order, rule);
     }
-    (period as u64).saturating_sub(span(done.as_slice(), part.task)) as u32
+    // `as`: what is left of a period is proved to fit
+    let left = u64::from(period).saturating_sub(sums(done, task).window) as u32;
+    (left >= 1).then_some(left)
 }
 
-// The parts with their windows, or the first that has none of 1 or more.
+// The parts with their windows, or the first that has none.
 pub(crate) fn with_windows<O: PriorityOrder, R: ArrivalRule>(
     set: &TaskSet,
     parts: &PartList,
@@ -74,16 +57,10 @@ pub(crate) fn with_windows<O: PriorityOrder, R: ArrivalRule>(
 {
     let mut done = PartList::empty();
     for (number, part) in parts.as_slice().iter().enumerate() {
-        let window = part_window(set, parts, &done, *part, order, rule);
-        if window == 0 {
-            return Err(PlanFault::Squeezed { part: number });
-        }
-        let _ = done.push(Part {
-            task: part.task,
-            processor: part.processor,
-            cost: part.cost,
-            window,
-        });
+        let window = part_window(set, parts, &done, *part, order, rule).ok_or(PlanFault::Squeezed {
+            part: number,
+        })?;
+        done.push(Part { window, ..*part }).unwrap();
     }
     Ok(done)
 }

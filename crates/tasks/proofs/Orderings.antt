@@ -1,6 +1,7 @@
--- The tasks of a set under a lawful priority order, and their ranks.
-use Rattle.std.proofs.Common.{◌≡◌, ℕ, zero, suc, ◌+◌, ◌<◌, ◌≤◌, Bool, true, false, T, sym, refl, ap, subst, inl, inr, arith}
+-- The laws of a priority order, the tasks of a set under them, and their ranks.
+use Rattle.std.proofs.Common.{◌≡◌, ℕ, zero, suc, ◌+◌, ◌<◌, ◌≤◌, Bool, true, false, length, T, sym, refl, ap, subst, inl, inr, arith}
 use Rattle.std.proofs.lemmas.Bool.{cases_Bool, cases_eq}
+use Rattle.std.specs.List.{filter, range_with_len}
 use Rattle.schedule.proofs.facts.Lists.{from_T, to_T, total_lt, in_below, below_in, one_if_le}
 use Rattle.schedule.specs.Lists.{◌∈◌, total, up_from, below, one_if}
 use Rattle.schedule.specs.Orders.{Ordered}
@@ -8,9 +9,19 @@ use Rattle.tasks.specs.Numbers.{as_numbered}
 use Rattle.tasks.specs.Orders.{Told, LawfulOrder, as_asked}
 use Rattle.tasks.specs.Ranks.{precedes, Ranked}
 use Rattle.tasks.specs.Sets.{count_of, key_of}
+use Rattle.tasks.specs.contracts.order.PriorityOrder.TheBound.{Met}
 use Rattle.tasks.specs.declared.order.TaskKey.{TaskKey}
 use Rattle.tasks.specs.declared.set.TaskSet.{TaskSet}
 use Rattle.tasks.proofs.Sets.{period_scaled}
+
+-- The four laws, as every bound `O: PriorityOrder` brings them.
+pub lawful_order : {M 𝓤 𝓛 𝓜 𝓡 env O has dict : _} → Met {M = M} {𝓤 = 𝓤} 𝓛 𝓜 𝓡 env O has dict → (o : O.Denot) → LawfulOrder (has.before o)
+lawful_order met o = record {
+  irreflexive = met.irreflexive o;
+  connected = met.connected o;
+  asymmetric = met.asymmetric o;
+  transitive = met.transitive o;
+}
 
 module _ (set : TaskSet) (before : TaskKey → TaskKey → Bool) (law : LawfulOrder before) where
   told : (i : ℕ) → Told (as_asked (key_of set i))
@@ -56,6 +67,19 @@ total_more f n =
     let e : n + 1 ≡ suc n = omega arith in
     let d : f (0 + n) ≡ f n = ap f (omega arith) in
     rw e (omega (arith, more_from f 0 n))
+
+-- how many numbers pass a test
+passing_from : (p : ℕ → Bool) (a n : ℕ) → length (filter p (range_with_len a n)) ≡ total (λ j. one_if (p j)) (up_from a n)
+passing_from p a zero = refl
+passing_from p a (suc n) =
+    let e : a + 1 ≡ suc a = omega arith in
+    elim (cases_Bool (p a)) [
+      | inl t ↦ rw (t, e) (omega (arith, passing_from p (suc a) n))
+      | inr f ↦ rw (f, e) (omega (arith, passing_from p (suc a) n))
+    ]
+
+pub passing_below : (p : ℕ → Bool) (n : ℕ) → length (filter p (range_with_len 0 n)) ≡ total (λ j. one_if (p j)) (below n)
+passing_below p n = passing_from p 0 n
 
 ones : (a n : ℕ) → total (λ _. 1) (up_from a n) ≡ n
 ones a zero = refl

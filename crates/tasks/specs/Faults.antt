@@ -1,13 +1,14 @@
 -- Each fault of a task set by layer, number and place.
 use Rattle.std.specs.Prelude.{ℕ}
+use Rattle.sheet.specs.declared.fault.Layer.TheVariants as Layers
 use Rattle.sheet.specs.declared.fault.Refusal.{Refusal}
 use Rattle.sheet.specs.Faults as Sheets
 use Rattle.tasks.specs.declared.fault.SetFault.{SetFault}
 use Rattle.tasks.specs.declared.fault.SetFault.TheVariants.{Sheet, OffScale, Falling, Overfull}
 
--- A refusal of layer G, the task set: 71 is the letter's code.
+-- A refusal of layer G, the task set.
 abbrev pub by_set : ℕ → ℕ → Refusal
-by_set number place = record { layer = 71; number = number; place = place }
+by_set number place = record { layer = Layers.Set; number = number; place = place }
 
 abbrev pub shown : SetFault → Refusal
 shown (Sheet s) = Sheets.shown s

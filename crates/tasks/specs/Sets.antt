@@ -1,24 +1,29 @@
 -- A task set as numbers, and which numbers make one.
-use Rattle.std.specs.Prelude.{◌≡◌, ℕ, ◌-◌, ◌<◌, Bool, cond, not, ◌&&◌, ◌||◌, List, length, Some, None, Ok, Err, Option, Result, ◌==◌, nat_le, nat_lt, slice_index}
+use Rattle.std.specs.Prelude.{◌≡◌, ℕ, ◌-◌, ◌<◌, Bool, not, ◌&&◌, ◌||◌, List, length, Some, None, Ok, Err, Option, Result, ◌==◌, nat_le, nat_lt, slice_get, slice_index, take, unwrap_or}
 use Rattle.std.specs.Option.{option_or, option_map}
 use Rattle.std.specs.Bool.{then_some}
 use Rattle.tasks.specs.Searches.{first_where}
 use Rattle.tasks.specs.declared.fault.SetFault.{SetFault}
 use Rattle.tasks.specs.declared.fault.SetFault.TheVariants.{OffScale, Falling, Overfull}
 use Rattle.tasks.specs.declared.order.TaskKey.{TaskKey}
+use Rattle.tasks.specs.declared.set.Task.{Task}
 use Rattle.tasks.specs.declared.set.TaskSet.{TaskSet}
 
 -- How many tasks the set has.
 abbrev pub count_of : TaskSet → ℕ
 count_of s = s.count
 
+-- The tasks of the set.
+abbrev pub task_list : TaskSet → List Task
+task_list s = take s.count s.tasks
+
 -- The period of a task; 1 past the set's tasks.
 abbrev pub period_of : TaskSet → ℕ → ℕ
-period_of s i = cond (nat_lt i s.count) (slice_index s.periods i) 1
+period_of s i = unwrap_or (option_map (λ t. t.period) (slice_get (task_list s) i)) 1
 
 -- The cost of a task; 0 past the set's tasks.
 abbrev pub cost_of : TaskSet → ℕ → ℕ
-cost_of s i = cond (nat_lt i s.count) (slice_index s.costs i) 0
+cost_of s i = unwrap_or (option_map (λ t. t.cost) (slice_get (task_list s) i)) 0
 
 -- A task of the set as a priority order is told it.
 abbrev pub key_of : TaskSet → ℕ → TaskKey

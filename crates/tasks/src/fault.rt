@@ -4,7 +4,7 @@ ghost use Rattle.sheet.specs.Faults.{fault_line};
 ghost use Rattle.tasks.specs.Faults.{shown};
 ghost use Rattle.tasks.specs.declared.fault.SetFault.TheVariants.{Sheet};
 
-use sheet::fault::{Refusal, SheetFault};
+use sheet::fault::{Layer, Refusal, SheetFault};
 use std::fmt;
 
 // What is wrong with a task set (layer G), or with the sheet that it was read from.
@@ -12,7 +12,7 @@ use std::fmt;
 pub enum SetFault {
     // the fault of the sheet's bytes, whole
     Sheet(SheetFault),
-    // a period, a cost or a count outside its limits; a count has the place 0
+    // a period, a cost or a count outside its limits; a count has the place 0, as the rules write it
     OffScale { task: usize },
     // a period below the one before it
     Falling { task: usize },
@@ -20,6 +20,7 @@ pub enum SetFault {
     Overfull { task: usize },
 }
 
+// By hand, since a derived From or Display promises nothing of what it makes or writes.
 impl From<SheetFault> for SetFault {
     ghost from_gives = { λ s r. r ≡ Sheet s };
 
@@ -29,27 +30,20 @@ impl From<SheetFault> for SetFault {
 }
 
 impl SetFault {
-    // Layer, number and place of the fault.
+    // Layer, number and place of the fault. The place is widened by `as`: there is no From into u64 for a usize.
     pub fn refusal(&self) -> Refusal
         ensures { result ≡ shown self.now }
     {
-        match *self {
-            SetFault::Sheet(s) => s.refusal(),
-            SetFault::OffScale { task } => Refusal {
-                layer: 'G',
-                number: 3,
-                place: task as u64,
-            },
-            SetFault::Falling { task } => Refusal {
-                layer: 'G',
-                number: 4,
-                place: task as u64,
-            },
-            SetFault::Overfull { task } => Refusal {
-                layer: 'G',
-                number: 5,
-                place: task as u64,
-            },
+        let (number, task) = match *self {
+            SetFault::Sheet(s) => return s.refusal(),
+            SetFault::OffScale { task } => (3, task),
+            SetFault::Falling { task } => (4, task),
+            SetFault::Overfull { task } => (5, task),
+        };
+        Refusal {
+            layer: Layer::Set,
+            number,
+            place: task as u64,
         }
     }
 }
@@ -58,7 +52,6 @@ impl fmt::Display for SetFault {
     ghost output = { λ f. Some (fault_line (shown f)) };
 
     fn fmt<W: fmt::Write>(&self, f: &mut fmt::Formatter<W>) -> fmt::Result {
-        let refusal = self.refusal();
-        write!(f, "{refusal}")
+        self.refusal().fmt(f)
     }
 }

@@ -1,20 +1,21 @@
 // The order of a list of grades.
 ghost use Rattle.std.specs.Prelude.{◌≡◌, length};
 ghost use Rattle.tasks.specs.Orders.{by_grade};
-ghost use Rattle.std.proofs.Common.{rules, arith};
+ghost use Rattle.std.proofs.Common.{rules};
 
 use crate::numbers::task_number;
-use crate::order::{PriorityOrder, TaskKey, is_first};
+use crate::order::{PriorityOrder, TaskKey};
+use crate::set::MAX_TASKS;
 
 // A grade for each task number: the smaller grade goes first, of equal ones the smaller number.
 #[derive(Clone, Copy)]
 pub struct Listed {
-    grades: [u8; 32],
+    grades: [u8; MAX_TASKS],
     ghost wide: { length grades ≡ 32 },
 }
 
 impl Listed {
-    pub fn new(grades: [u8; 32]) -> Listed
+    pub fn new(grades: [u8; MAX_TASKS]) -> Listed
         ensures { result.grades ≡ grades }
     {
         Listed { grades }
@@ -24,17 +25,17 @@ impl Listed {
 impl PriorityOrder for Listed {
     ghost before = { λ o a b. by_grade o.grades a b };
 
-    ghost irreflexive = { first_of (Prim.search rules, Prim.grind (arith, Self.row.coded.inj)) };
+    ghost irreflexive = { Prim.search rules };
 
-    ghost connected = { first_of (Prim.search rules, Prim.grind (arith, Self.row.coded.inj)) };
+    ghost connected = { Prim.search rules };
 
-    ghost asymmetric = { first_of (Prim.search rules, Prim.grind (arith, Self.row.coded.inj)) };
+    ghost asymmetric = { Prim.search rules };
 
-    ghost transitive = { first_of (Prim.search rules, Prim.grind (arith, Self.row.coded.inj)) };
+    ghost transitive = { Prim.search rules };
 
     fn goes_before(&self, first: TaskKey, second: TaskKey) -> bool {
         let a = task_number(first.number);
         let b = task_number(second.number);
-        is_first(self.grades[a] as u32, a, self.grades[b] as u32, b)
+        (self.grades[a], a) < (self.grades[b], b)
     }
 }

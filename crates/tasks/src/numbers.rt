@@ -2,9 +2,9 @@
 ghost use Rattle.std.specs.Prelude.{◌≡◌, ◌<◌};
 ghost use Rattle.tasks.specs.Numbers.{as_numbered, as_long};
 
-// The highest number of a task, and the longest stretch that is asked about.
-const LAST_TASK: usize = 31;
+use crate::set::MAX_TASKS;
 
+// The longest stretch that is asked about.
 const MAX_LENGTH: u64 = 1_000_000;
 
 // A task's number; above 31 it is 31.
@@ -12,7 +12,7 @@ pub fn task_number(task: usize) -> usize
     ensures value { result ≡ as_numbered task }
     ensures bound { result < 32 }
 {
-    task.min(LAST_TASK)
+    task.min(MAX_TASKS - 1)
 }
 
 // A length; above 1,000,000 it is 1,000,000.

@@ -1,7 +1,7 @@
 // Priority orders: which of two tasks goes before the other.
 ghost use Rattle.std.specs.Prelude.{◌≡◌, Bool, T, ◌⊎◌, ◌≢◌};
 ghost use Rattle.tasks.specs.declared.order.TaskKey.{TaskKey};
-ghost use Rattle.tasks.specs.Orders.{Told, as_asked, first_of};
+ghost use Rattle.tasks.specs.Orders.{Told, as_asked};
 
 // A task as a priority order is told it.
 #[derive(Clone, Copy, PartialEq, Eq, Debug)]
@@ -29,11 +29,4 @@ pub trait PriorityOrder {
 
     // over tasks of three different numbers
     ghost transitive: { (o : Self) (a b c : TaskKey) → Told a → Told b → Told c → (a.number ≢ b.number) → (b.number ≢ c.number) → (a.number ≢ c.number) → T (before o a b) → T (before o b c) → T (before o a c) };
-}
-
-// Of two values, each with a number: whether the first is smaller, or equal and of the smaller number.
-pub(crate) fn is_first(value: u32, number: usize, other_value: u32, other_number: usize) -> bool
-    ensures { result ≡ first_of value number other_value other_number }
-{
-    value < other_value || (value == other_value && number < other_number)
 }

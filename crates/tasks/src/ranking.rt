@@ -11,11 +11,7 @@ pub fn rank<O: PriorityOrder>(set: &TaskSet, order: &O, task: usize) -> usize
     ensures ranked { Ranked (O.before order.now) set.now }
 {
     let key = set.key(task);
-    let mut count = 0;
-    for other in 0..set.count() {
-        if order.goes_before(set.key(other), key) {
-            count += 1;
-        }
-    }
-    count
+    (0..set.count())
+        .filter(|other| order.goes_before(set.key(*other), key))
+        .count()
 }

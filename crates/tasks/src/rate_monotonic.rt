@@ -3,7 +3,7 @@ ghost use Rattle.tasks.specs.Orders.{by_period};
 ghost use Rattle.std.proofs.Common.{rules};
 
 use crate::numbers::task_number;
-use crate::order::{PriorityOrder, TaskKey, is_first};
+use crate::order::{PriorityOrder, TaskKey};
 
 // The task with the smaller period goes first, of equal ones the one with the smaller number.
 #[derive(Clone, Copy)]
@@ -21,11 +21,8 @@ impl PriorityOrder for RateMonotonic {
     ghost transitive = { Prim.search rules };
 
     fn goes_before(&self, first: TaskKey, second: TaskKey) -> bool {
-        is_first(
-            first.period,
-            task_number(first.number),
-            second.period,
-            task_number(second.number),
-        )
+        let a = (first.period, task_number(first.number));
+        let b = (second.period, task_number(second.number));
+        a < b
     }
 }

@@ -1,25 +1,31 @@
 // Task sets.
-ghost use Rattle.std.specs.Prelude.{◌≡◌, ℕ, ◌+◌, ◌<◌, ◌≤◌, length, slice_index};
+ghost use Rattle.std.specs.Prelude.{◌≡◌, ℕ, ◌+◌, ◌<◌, ◌≤◌, length, take, All};
+ghost use Rattle.std.specs.List.Sorted.{IsNonDecreasingBy};
 
 // The most tasks of a set, and the most ticks of a period or a cost.
 pub const MAX_TASKS: usize = 32;
 
 pub const MAX_TICKS: u32 = 100_000;
 
+// What a set says of one task, in ticks.
+#[derive(Clone, Copy)]
+struct Task {
+    period: u32,
+    cost: u32,
+}
+
 // 1 to 32 tasks: their periods never fall, and no cost is above its period.
 #[derive(Clone, Copy)]
 pub struct TaskSet {
     count: usize,
-    periods: [u32; 32],
-    costs: [u32; 32],
+    tasks: [Task; MAX_TASKS],
     ghost some: { 1 ≤ count },
     ghost few: { count ≤ 32 },
-    ghost wide: { length periods ≡ 32 },
-    ghost deep: { length costs ≡ 32 },
-    ghost lasting: { (i : ℕ) → i < count → slice_index costs i ≤ slice_index periods i },
-    ghost working: { (i : ℕ) → i < count → 1 ≤ slice_index costs i },
-    ghost scaled: { (i : ℕ) → i < count → slice_index periods i ≤ 100000 },
-    ghost rising: { (i : ℕ) → i + 1 < count → slice_index periods i ≤ slice_index periods (i + 1) },
+    ghost wide: { length tasks ≡ 32 },
+    ghost lasting: { All (λ t. t.cost ≤ t.period) (take count tasks) },
+    ghost working: { All (λ t. 1 ≤ t.cost) (take count tasks) },
+    ghost scaled: { All (λ t. t.period ≤ 100000) (take count tasks) },
+    ghost rising: { IsNonDecreasingBy (λ t. t.period) (take count tasks) },
 }
 
 pub mod methods;

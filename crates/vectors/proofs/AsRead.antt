@@ -9,11 +9,12 @@ use Rattle.schedule.specs.Layout.{System, work_of}
 use Rattle.tasks.specs.Numbers.{as_numbered}
 use Rattle.tasks.specs.Orders.{as_asked, by_period}
 use Rattle.tasks.specs.Searches.{first_where}
+use Rattle.tasks.proofs.Sets.{past_period, past_cost}
 use Rattle.tasks.specs.Sets.{Holds, period_of, cost_of}
 use Rattle.rules.specs.Spacing.{spaced_curve}
 use Rattle.tasks.specs.declared.fault.SetFault.TheVariants as Sets
 use Rattle.tasks.specs.declared.set.TaskSet.{TaskSet}
-use Rattle.rules.specs.declared.spaced.Spaced.{Spaced}
+use Rattle.rules.specs.Spacing.{Spaced}
 use Rattle.plan.specs.Checks.{part_at, off_scale, twin, overlap, late}
 use Rattle.parts.specs.declared.fault.PlanFault.{PlanFault}
 use Rattle.parts.specs.declared.fault.PlanFault.TheVariants.{Set, OffScale, Stranger, Twin, Miscount, Overlap, Late, Cramped}
@@ -69,14 +70,14 @@ placed f xs n past inside outside i =
     ]
 
 module _ (t : Grammar.Tasks) (set : TaskSet) (holds : Holds (length t.periods) (λ i. get_or t.periods i 0) (λ i. get_or t.costs i 0) set) where
-  beyond : (i : ℕ) → length t.periods ≤ i → ltb i set.count ≡ false
-  beyond i h = ap (ltb i) holds.0 ∙ le-ltb i (length t.periods) h
+  beyond : (i : ℕ) → length t.periods ≤ i → set.count ≤ i
+  beyond i h = omega (arith, holds.0)
 
   same_periods : (i : ℕ) → period_of set i ≡ (numbers t).period i
-  same_periods = placed (period_of set) t.periods (length t.periods) 1 (λ i h. (holds.1 i h).0) (λ i h. ap (λ (b : Bool). cond b (get_or set.periods i 0) 1) (beyond i h))
+  same_periods = placed (period_of set) t.periods (length t.periods) 1 (λ i h. (holds.1 i h).0) (λ i h. past_period set i (beyond i h))
 
   same_costs : (i : ℕ) → cost_of set i ≡ (numbers t).cost i
-  same_costs = placed (cost_of set) t.costs (length t.periods) 0 (λ i h. (holds.1 i h).1) (λ i h. ap (λ (b : Bool). cond b (get_or set.costs i 0) 0) (beyond i h))
+  same_costs = placed (cost_of set) t.costs (length t.periods) 0 (λ i h. (holds.1 i h).1) (λ i h. past_cost set i (beyond i h))
 
   same_tasks : tasks_of set ≡ numbers t
   same_tasks = λ j. record { count = holds.0 j; period = fun_ext same_periods j; cost = fun_ext same_costs j }

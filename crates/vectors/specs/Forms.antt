@@ -9,7 +9,7 @@ use Rattle.tasks.specs.Orders.{by_period}
 use Rattle.tasks.specs.Sets.{period_of}
 use Rattle.rules.specs.Spacing.{spaced_curve}
 use Rattle.tasks.specs.declared.set.TaskSet.{TaskSet}
-use Rattle.rules.specs.declared.spaced.Spaced.{Spaced}
+use Rattle.rules.specs.Spacing.{Spaced}
 use Rattle.plan.specs.Answers.{check_fault, check_answer}
 use Rattle.plan.specs.Checks.{response_times}
 use Rattle.parts.specs.Faults.{shown, by_plan}

@@ -6,4 +6,5 @@ mod machines;
 mod planning;
 mod reading;
 mod rows;
+mod running;
 mod sets_and_rules;

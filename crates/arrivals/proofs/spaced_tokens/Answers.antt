@@ -1,9 +1,7 @@
 use Rattle.std.proofs.Common.{subst}
-use Rattle.rules.specs.Buckets.{bucket_curve}
+use Rattle.rules.specs.Buckets.{Bucket, bucket_curve}
 use Rattle.rules.specs.Pacing.{AllPaced}
-use Rattle.rules.specs.Spacing.{spaced_curve}
-use Rattle.rules.specs.declared.bucket.Bucket.{Bucket}
-use Rattle.rules.specs.declared.spaced.Spaced.{Spaced}
+use Rattle.rules.specs.Spacing.{Spaced, spaced_curve}
 use Rattle.rules.specs.SpacingLemmas.{all_spaced_paced}
 use Rattle.arrivals.proofs.spaced_tokens.Goals as goal
 

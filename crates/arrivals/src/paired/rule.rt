@@ -1,72 +1,70 @@
 // Releases in pairs as an arrival rule.
-ghost use Rattle.std.specs.Prelude.{◌≡◌, ℕ, ◌-◌, ◌<◌, min, max, length, slice_index};
+ghost use Rattle.std.specs.Prelude.{◌≡◌, ℕ, ◌<◌, min};
 ghost use Rattle.schedule.specs.Curves.{Subadditive};
 ghost use Rattle.tasks.specs.Numbers.{rounded_up};
-ghost use Rattle.arrivals.specs.Pairs.{paired_curve, paired_left};
+ghost use Rattle.arrivals.specs.Pairs.{pair_curve, pair_left, paired_curve, paired_left};
 ghost use Rattle.arrivals.specs.Places.{places_lawful, places_left};
 
-use crate::paired::Paired;
-use tasks::arrival::{ArrivalRule, TooSoon};
-use tasks::numbers::{stretch, task_number};
+use crate::paired::{Pair, Paired};
+use rules::per_task::PerTask;
+use rules::regulator::Regulator;
+use tasks::arrival::TooSoon;
 
-const PERIOD: u64 = 7;
+const PERIOD: u32 = 7;
 
-// Every count falls by 1, but not below the floor.
-fn count_down(counts: &mut [u32], floor: u32)
-    ensures { (i : ℕ) → i < length counts.old → slice_index counts.new i ≡ max (slice_index counts.old i - 1) floor }
-{
-    for count in counts.iter_mut() {
-        *count = count.saturating_sub(1).max(floor);
-    }
-}
-
-impl Paired {
-    // Both places of every task are free. Joined with releases spaced by 3 ticks the curve is not subadditive.
-    pub fn new() -> Paired
-        ensures fresh { (i : ℕ) (L : ℕ) → i < 32 → paired_left result i L ≡ paired_curve result i L }
-        ensures not_subadditive { Subadditive (λ L. min (rounded_up L 3) (paired_curve result 0 L)) → ⊥ }
+impl Pair {
+    // Both places are free.
+    fn new() -> Pair
+        ensures { (L : ℕ) → pair_left result L ≡ pair_curve result L }
     {
-        Paired {
-            sooner: [0; 32],
-            later: [1; 32],
+        Pair {
+            sooner: 0,
+            later: 1,
         }
     }
 }
 
-impl ArrivalRule for Paired {
-    ghost curve = { paired_curve };
+impl Regulator for Pair {
+    ghost curve = { pair_curve };
 
-    ghost left = { paired_left };
+    ghost left = { pair_left };
 
-    ghost curves = { λ r i h. places_lawful };
+    ghost lawful = { λ p. places_lawful };
 
-    ghost lefts = { λ r i h. places_left (slice_index r.sooner i) (slice_index r.later i) (r.sorted i h) (r.close i h) };
+    ghost left_lawful = { λ p. places_left p.sooner p.later p.sorted p.close };
 
-    fn fresh(&mut self) {
-        *self = Paired::new();
+    fn fill(&mut self) {
+        *self = Pair::new();
     }
 
-    fn curve_at(&self, task: usize, length: u64) -> u64 {
-        let length = stretch(length);
-        length.div_ceil(PERIOD) + length.saturating_sub(1).div_ceil(PERIOD)
+    fn curve_at(&self, length: u64) -> u64 {
+        let period = u64::from(PERIOD);
+        length.div_ceil(period) + length.saturating_sub(1).div_ceil(period)
     }
 
-    fn is_open(&self, task: usize) -> bool {
-        self.sooner[task_number(task)] == 0
+    fn is_open(&self) -> bool {
+        self.sooner == 0
     }
 
-    fn admit(&mut self, task: usize) -> Result<(), TooSoon> {
-        let i = task_number(task);
-        if self.sooner[i] > 0 {
+    fn take(&mut self) -> Result<(), TooSoon> {
+        if self.sooner > 0 {
             return Err(TooSoon);
         }
-        self.sooner[i] = self.later[i];
-        self.later[i] = PERIOD as u32;
+        self.sooner = self.later;
+        self.later = PERIOD;
         Ok(())
     }
 
-    fn advance(&mut self) {
-        count_down(&mut self.sooner, 0);
-        count_down(&mut self.later, 1);
+    fn tick(&mut self) {
+        self.sooner = self.sooner.saturating_sub(1);
+        self.later = self.later.saturating_sub(1).max(1);
     }
+}
+
+// Both places of every task are free. Joined with releases spaced by 3 ticks the curve is not subadditive.
+pub fn free_pairs() -> Paired
+    ensures fresh { (i : ℕ) (L : ℕ) → i < 32 → paired_left result i L ≡ paired_curve result i L }
+    ensures not_subadditive { Subadditive (λ L. min (rounded_up L 3) (paired_curve result 0 L)) → ⊥ }
+{
+    PerTask::from([Pair::new(); 32])
 }

@@ -1,5 +1,5 @@
 // What can be done with a front list.
-ghost use Rattle.std.specs.Prelude.{◌≡◌, ◌<◌, ◌≤◌, List, [], ◌∷◌, length, is_ok, IfErr, if◌then◌else◌, nat_lt};
+ghost use Rattle.std.specs.Prelude.{◌≡◌, [], ◌∷◌, length, is_ok, IfErr, if◌then◌else◌, nat_lt};
 ghost use Rattle.front.specs.Fronts.{listed, room, Taken};
 
 use crate::lists::FrontList;
@@ -17,22 +17,23 @@ impl<'a, T: Copy> FrontList<'a, T> {
     pub fn len(&self) -> usize
         ensures { result ≡ length (listed self.now) }
     {
-        self.items.len().min(self.count)
+        self.count
     }
 
     // Puts an element in front, or gives it back where there is no room.
+    // (By an index: of a slice that `get_mut` has lent a proof knows only the length.)
+    #[tactic(auto, using(crate::proofs::Memory::reversed_push))]
     pub fn push_front(&mut self, element: T) -> Result<(), T>
         ensures answer { is_ok result ≡ nat_lt (length (listed self.old)) (room self.old) }
         ensures after { listed self.new ≡ (if is_ok result then element ∷ listed self.old else listed self.old) }
         ensures room { room self.new ≡ room self.old }
         ensures refused { IfErr result (λ x. x ≡ element) }
     {
-        let count = self.count.min(self.items.len());
-        if count >= self.items.len() {
+        if self.count == self.items.len() {
             return Err(element);
         }
-        self.items[count] = element;
-        self.count = count + 1;
+        self.items[self.count] = element;
+        self.count += 1;
         Ok(())
     }
 
@@ -41,12 +42,8 @@ impl<'a, T: Copy> FrontList<'a, T> {
         ensures after { Taken (listed self.old) result (listed self.new) }
         ensures room { room self.new ≡ room self.old }
     {
-        let count = self.count.min(self.items.len());
-        if count == 0 {
-            return None;
-        }
-        let front = self.items[count - 1];
-        self.count = count - 1;
-        Some(front)
+        let last = self.count.checked_sub(1)?;
+        self.count = last;
+        Some(self.items[last])
     }
 }

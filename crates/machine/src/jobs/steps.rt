@@ -1,5 +1,5 @@
 // What becomes of a job.
-ghost use Rattle.std.specs.Prelude.{◌≡◌, ℕ, ◌<◌, true, length, slice_index_or, slice_set};
+ghost use Rattle.std.specs.Prelude.{◌≡◌, ℕ, ◌<◌, true, slice_index_or, slice_set};
 ghost use Rattle.schedule.specs.TickRule.{hand_over};
 ghost use Rattle.tasks.specs.Sets.{count_of};
 ghost use Rattle.parts.specs.Parts.{parts_of};
@@ -7,7 +7,8 @@ ghost use Rattle.machine.specs.Jobs.{meant, fits, in_time, may, after_event, ran
 ghost use Rattle.machine.specs.Placing.{from_part};
 ghost use Rattle.machine.specs.declared.jobs.Job.TheVariants.{Closed};
 
-use crate::jobs::{Event, Job, JobTable};
+use crate::dispatcher::Dispatcher;
+use crate::jobs::{Event, Job};
 use crate::layout::Layout;
 use crate::placed::PlacedPart;
 
@@ -64,45 +65,39 @@ pub(crate) fn next_state(layout: &Layout, task: usize, job: Job, event: Event) -
     }
 }
 
-impl JobTable {
-    // Changes the record of one task by an event.
-    pub(crate) fn happen(&mut self, layout: &Layout, task: usize, event: Event)
-        requires known { task < 32 }
-        requires whole { length self.old.jobs ≡ 32 }
-        requires fitting { fits (parts_of layout.now.list) (slice_index_or self.old.jobs task Closed) ≡ true }
-        requires may { may (slice_index_or self.old.jobs task Closed) event ≡ true }
-        ensures others { self.new.jobs ≡ slice_set self.old.jobs task (slice_index_or self.new.jobs task Closed) }
-        ensures meaning { meant (parts_of layout.now.list) (slice_index_or self.new.jobs task Closed) ≡ after_event (parts_of layout.now.list) task event (meant (parts_of layout.now.list) (slice_index_or self.old.jobs task Closed)) }
-        ensures fitting { fits (parts_of layout.now.list) (slice_index_or self.new.jobs task Closed) ≡ true }
-    {
-        let job = next_state(layout, task, self.jobs[task], event);
-        self.jobs[task] = job;
-    }
-}
-
 // Whether the job of the task is the one that runs on the processor of its part.
 fn has_run(layout: &Layout, task: usize, job: Job, running: &[u8; 8]) -> bool
     requires fitting { fits (parts_of layout.now.list) job ≡ true }
     ensures { result ≡ ran_by (parts_of layout.now.list) running.now task job }
 {
     match job {
-        Job::Ready { part, .. } => running[layout.placed[part].processor as usize] as usize == task,
+        Job::Ready { part, .. } => usize::from(running[usize::from(layout.placed[part].processor)])
+            == task,
         Job::Waiting { .. } | Job::Closed => false,
     }
 }
 
-impl JobTable {
-    // A tick passes for the job of each task.
-    pub(crate) fn grow_older(&mut self, layout: &Layout, running: &[u8; 8])
-        requires whole { length self.old.jobs ≡ 32 }
-        requires fitting { (i : ℕ) → fits (parts_of layout.now.list) (slice_index_or self.old.jobs i Closed) ≡ true }
-        ensures whole { length self.new.jobs ≡ 32 }
-        ensures fitting { (i : ℕ) → fits (parts_of layout.now.list) (slice_index_or self.new.jobs i Closed) ≡ true }
-        ensures aged { (i : ℕ) → i < count_of layout.now.set → Aged (parts_of layout.now.list) running.now i (slice_index_or self.old.jobs i Closed) (slice_index_or self.new.jobs i Closed) }
+impl Dispatcher {
+    // Changes the record of one task by an event.
+    pub(crate) fn happen(&mut self, task: usize, event: Event)
+        requires known { task < 32 }
+        requires may { may (slice_index_or self.old.table.jobs task Closed) event ≡ true }
+        ensures layout { self.new.layout ≡ self.old.layout }
+        ensures others { self.new.table.jobs ≡ slice_set self.old.table.jobs task (slice_index_or self.new.table.jobs task Closed) }
+        ensures meaning { meant (parts_of self.old.layout.list) (slice_index_or self.new.table.jobs task Closed) ≡ after_event (parts_of self.old.layout.list) task event (meant (parts_of self.old.layout.list) (slice_index_or self.old.table.jobs task Closed)) }
     {
-        for task in 0..layout.set.count() {
-            let ran = has_run(layout, task, self.jobs[task], running);
-            self.happen(layout, task, Event::Tick { ran });
+        self.table.jobs[task] = next_state(&self.layout, task, self.table.jobs[task], event);
+    }
+
+    // A tick passes for the job of each task.
+    pub(crate) fn grow_older(&mut self, running: &[u8; 8])
+        ensures layout { self.new.layout ≡ self.old.layout }
+        ensures aged { (i : ℕ) → i < count_of self.old.layout.set → Aged (parts_of self.old.layout.list) running.now i (slice_index_or self.old.table.jobs i Closed) (slice_index_or self.new.table.jobs i Closed) }
+    {
+        // by number, since that is what `happen` takes: an `iter_mut` over the records would lend out what it changes
+        for task in 0..self.layout.set.count() {
+            let ran = has_run(&self.layout, task, self.table.jobs[task], running);
+            self.happen(task, Event::Tick { ran });
         }
     }
 }

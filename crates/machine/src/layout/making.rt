@@ -6,7 +6,7 @@ ghost use Rattle.machine.specs.Layouts.{ByOrder};
 
 use crate::layout::Layout;
 use crate::layout::ranks::{Ranks, ranks_of};
-use crate::layout::tables::{Followers, begins_of, followers_of, placed_of};
+use crate::layout::tables::{link_parts, placed_of};
 use parts::lists::PartList;
 use tasks::order::PriorityOrder;
 use tasks::set::TaskSet;
@@ -24,9 +24,8 @@ impl Layout {
         ensures ranked { ByOrder result (O.before order.now) }
     {
         let parts = list.as_slice();
-        let begins = begins_of(parts);
-        let Followers { next, first } = followers_of(parts);
-        let placed = placed_of(parts, &begins, &next);
+        let mut placed = placed_of(parts);
+        let first = link_parts(parts, &mut placed);
         let Ranks { ranks, by_rank } = ranks_of(&set, order);
         Layout {
             set,

@@ -1,7 +1,9 @@
 // What a token bucket does.
-ghost use Rattle.std.specs.Prelude.{◌≡◌, ℕ, ◌≤◌, not, is_ok, ◌==◌};
-ghost use Rattle.rules.specs.Tokens.{full_curve, tokens_curve, tokens_left, SameTokens, Leaves, Refilled, Taken, Ticked};
+ghost use Rattle.std.specs.Prelude.{◌≡◌, ℕ, ◌≤◌};
+ghost use Rattle.rules.specs.Tokens.{full_curve, tokens_curve, tokens_left};
+ghost use Rattle.rules.specs.Refills.{full_lawful, rest_lawful};
 
+use crate::regulator::Regulator;
 use crate::tokens::Tokens;
 use tasks::arrival::TooSoon;
 
@@ -10,7 +12,7 @@ impl Tokens {
     pub(crate) fn new(size: u32, refill: u32) -> Tokens
         requires { (1 ≤ size) × ((size ≤ 1000) × ((1 ≤ refill) × (refill ≤ 100000))) }
         ensures curves { (L : ℕ) → tokens_curve result L ≡ full_curve size refill L }
-        ensures full { Leaves (full_curve size refill) result }
+        ensures full { (L : ℕ) → 1 ≤ L → tokens_left result L ≡ full_curve size refill L }
     {
         Tokens {
             size,
@@ -20,35 +22,35 @@ impl Tokens {
             gave: false,
         }
     }
+}
 
-    // All tokens have returned.
-    pub(crate) fn fill(&mut self)
-        ensures { Refilled self.old self.new }
-    {
+impl Regulator for Tokens {
+    ghost curve = { tokens_curve };
+
+    ghost left = { tokens_left };
+
+    ghost lawful = { λ t. full_lawful t.refill t.timed t.size t.sized };
+
+    ghost left_lawful = { λ t. rest_lawful t.refill t.timed t.size t.held t.due t.gave t.within t.rested };
+
+    fn fill(&mut self) {
         *self = Tokens::new(self.size, self.refill);
     }
 
-    // The curve at a length of at most 1,000,000.
-    pub(crate) fn curve_at(&self, length: u64) -> u64
-        requires { length ≤ 1000000 }
-        ensures { result ≡ tokens_curve self.now length }
-    {
-        length.min(self.size as u64 + length.saturating_sub(1) / self.refill as u64)
+    fn curve_at(&self, length: u64) -> u64 {
+        // without overflow: a sum that is cut off is above every length
+        length.min(u64::from(self.size).saturating_add(
+            length.saturating_sub(1) / u64::from(self.refill),
+        ))
     }
 
-    // Whether it gives a token in this tick.
-    pub(crate) fn is_open(&self) -> bool
-        ensures { result ≡ (tokens_left self.now 1 == 1) }
-    {
+    #[tactic(auto, using(crate::specs::Refills::open_from))]
+    fn is_open(&self) -> bool {
         !self.gave && self.held > 0
     }
 
-    // Gives a token, or refuses and changes nothing.
-    pub(crate) fn take(&mut self) -> Result<(), TooSoon>
-        ensures answer { is_ok result ≡ not (tokens_left self.old 1 == 0) }
-        ensures curves_stay { SameTokens self.old self.new }
-        ensures left_falls { Taken (is_ok result) self.old self.new }
-    {
+    #[tactic(auto, using(crate::specs::Refills::open_means, crate::specs::Refills::gives))]
+    fn take(&mut self) -> Result<(), TooSoon> {
         if !self.is_open() {
             return Err(TooSoon);
         }
@@ -57,10 +59,8 @@ impl Tokens {
         Ok(())
     }
 
-    // One tick passes.
-    pub(crate) fn tick(&mut self)
-        ensures { Ticked self.old self.new }
-    {
+    #[tactic(auto, using(crate::specs::Refills::ticks_full, crate::specs::Refills::ticks_back))]
+    fn tick(&mut self) {
         self.gave = false;
         if self.held < self.size {
             if self.due > 1 {

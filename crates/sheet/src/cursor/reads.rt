@@ -1,7 +1,7 @@
 // What can be read at a cursor.
 ghost use Rattle.std.specs.Prelude.{◌≡◌, ◌≤◌, false, is_ok, IfOk};
 ghost use Rattle.sheet.specs.declared.fault.SheetFault.TheVariants.{Misspelt};
-ghost use Rattle.sheet.specs.Reading.{told, expected, number, opened, ended};
+ghost use Rattle.sheet.specs.Reading.{Parses, expected, number, opened, ended};
 
 use crate::cursor::{Cursor, MAX_BYTES};
 use crate::fault::SheetFault;
@@ -36,12 +36,12 @@ impl<'a> Cursor<'a> {
 
     // Goes past the character, which has to be the next byte.
     pub fn expect(&mut self, mark: char) -> Result<(), SheetFault>
-        ensures value { expected mark self.old.at self.old.rest.now ≡ told result self.new.at self.new.rest.now }
+        ensures value { Parses (expected mark) self.old result self.new }
         ensures stays { is_ok result ≡ false → self.new ≡ self.old }
     {
         let at = self.at;
         match self.rest {
-            [next, rest @ ..] if *next as char == mark => {
+            [next, rest @ ..] if char::from(*next) == mark => {
                 *self = Cursor { rest, at: at + 1 };
                 Ok(())
             }
@@ -61,35 +61,30 @@ impl<'a> Cursor<'a> {
 
     // Reads the digits of a number up to the byte `stop`, and weighs it once that byte is seen, which is not passed.
     pub fn number(&mut self, limits: Limits, stop: Stop) -> Result<u32, SheetFault>
-        ensures value { number limits stop self.old.at self.old.rest.now ≡ told result self.new.at self.new.rest.now }
+        ensures value { Parses (number limits stop) self.old result self.new }
         ensures stays { is_ok result ≡ false → self.new ≡ self.old }
         ensures within { IfOk result (λ v. (limits.least ≤ v) × (v ≤ limits.most)) }
     {
-        let first = self.at;
-        let mut rest = self.rest;
-        let mut at = first;
-        let mut digits = 0usize;
-        let mut value = 0u32;
-        while let [byte, after @ ..] = rest {
+        let mut value = 0;
+        for (digits, byte) in self.rest.iter().enumerate() {
+            let at = self.at + digits;
             match classify(*byte, digits, value) {
-                Symbol::Digit(digit) => {
-                    digits += 1;
-                    value = value * 10 + digit;
-                }
-                symbol => {
-                    if !stop.is(symbol) {
-                        return Err(SheetFault::Misspelt { at });
+                Symbol::Digit(digit) => value = value * 10 + digit,
+                Symbol::Stop(found) if found == stop => {
+                    if !limits.hold(value) {
+                        return Err(SheetFault::OffScale { at: self.at });
                     }
-                    if value < limits.least || value > limits.most {
-                        return Err(SheetFault::OffScale { at: first });
-                    }
-                    *self = Cursor { rest, at };
+                    *self = Cursor {
+                        rest: &self.rest[digits..],
+                        at,
+                    };
                     return Ok(value);
                 }
+                _ => return Err(SheetFault::Misspelt { at }),
             }
-            rest = after;
-            at += 1;
         }
-        Err(SheetFault::Misspelt { at })
+        Err(SheetFault::Misspelt {
+            at: self.at + self.rest.len(),
+        })
     }
 }

@@ -1,7 +1,7 @@
 // The lines of whole sheets.
 ghost use Rattle.std.specs.Prelude.{◌≡◌, ℕ, ◌<◌, ◌≤◌, length, slice_index_or};
 ghost use Rattle.parts.specs.Parts.{parts_of, plan_of};
-ghost use Rattle.sheet.specs.Reading.{told_as};
+ghost use Rattle.sheet.specs.Reading.{ParsesAs};
 ghost use Rattle.sheets.specs.Answers.{drafted, SheetOf};
 ghost use Rattle.sheets.specs.Grammar.{lines_of_tasks, lines_of_plan, assembled};
 
@@ -16,17 +16,16 @@ use sheet::fault::SheetFault;
 use tasks::fault::SetFault;
 use tasks::set::TaskSet;
 
-// The lines of a task sheet.
+// The lines of a task sheet. A count is widened by `as`, here and below: there is no From into usize for a u32.
 pub(crate) fn task_lines(cursor: &mut Cursor) -> Result<TaskDraft, SheetFault>
-    ensures { lines_of_tasks cursor.old.at cursor.old.rest.now ≡ told_as drafted result cursor.new.at cursor.new.rest.now }
+    ensures { ParsesAs drafted lines_of_tasks cursor.old result cursor.new }
 {
     let counts = number_line(cursor, 'T', 0)?;
-    let count = counts[0] as usize;
+    let count = counts.as_slice()[0] as usize;
     let periods = number_line(cursor, 'P', count)?;
     let costs = number_line(cursor, 'C', count)?;
     Ok(TaskDraft {
-        processors: counts[1] as usize,
-        count,
+        processors: counts.as_slice()[1] as usize,
         periods,
         costs,
     })
@@ -36,7 +35,7 @@ pub(crate) fn task_lines(cursor: &mut Cursor) -> Result<TaskDraft, SheetFault>
 pub(crate) fn sheet_of(draft: &TaskDraft) -> Result<TaskSheet, SetFault>
     ensures { SheetOf (drafted draft.now) result }
 {
-    let set = TaskSet::new(&draft.periods[0..draft.count], &draft.costs[0..draft.count])?;
+    let set = TaskSet::new(draft.periods.as_slice(), draft.costs.as_slice())?;
     Ok(TaskSheet {
         set,
         processors: draft.processors,
@@ -49,14 +48,13 @@ fn assemble(places: &[Pair], amounts: &[Pair]) -> PartList
     ensures { parts_of result ≡ assembled places.now amounts.now }
 {
     let mut list = PartList::empty();
-    for i in 0..places.len() {
-        let task = places[i].left as u8;
-        let processor = places[i].right as u8;
+    // by `as`, which the clause proves right: try_from would bring an error that cannot come
+    for (place, amounts) in places.iter().zip(amounts) {
         let _ = list.push(Part {
-            task,
-            processor,
-            cost: amounts[i].left,
-            window: amounts[i].right,
+            task: place.left as u8,
+            processor: place.right as u8,
+            cost: amounts.left,
+            window: amounts.right,
         });
     }
     list
@@ -64,13 +62,13 @@ fn assemble(places: &[Pair], amounts: &[Pair]) -> PartList
 
 // The lines of a plan sheet.
 pub(crate) fn plan_lines(cursor: &mut Cursor) -> Result<PartList, SheetFault>
-    ensures { lines_of_plan cursor.old.at cursor.old.rest.now ≡ told_as parts_of result cursor.new.at cursor.new.rest.now }
+    ensures { ParsesAs parts_of lines_of_plan cursor.old result cursor.new }
 {
     let counts = number_line(cursor, 'K', 0)?;
-    let count = counts[0] as usize;
+    let count = counts.as_slice()[0] as usize;
     let places = pair_line(cursor, 'P', count)?;
     let amounts = pair_line(cursor, 'A', count)?;
-    Ok(assemble(&places[0..count], &amounts[0..count]))
+    Ok(assemble(places.as_slice(), amounts.as_slice()))
 }
 
 // The plan of these parts, of which there are some.
@@ -78,8 +76,5 @@ pub(crate) fn propose(list: PartList) -> Proposal
     requires { (1 ≤ length (parts_of list)) × (length (parts_of list) ≤ 64) }
     ensures { plan_of result ≡ parts_of list }
 {
-    match Proposal::new(list) {
-        Ok(proposal) => proposal,
-        Err(_) => unreachable(),
-    }
+    Proposal::new(list).unwrap()
 }

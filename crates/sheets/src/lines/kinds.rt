@@ -1,28 +1,38 @@
-// Which array reader the line of a letter has.
-ghost use Rattle.std.specs.Prelude.{◌≡◌, ◌≤◌, length, take};
-ghost use Rattle.sheet.specs.Reading.{told_as};
-ghost use Rattle.sheets.specs.Grammar.{columns, line_of_numbers, line_of_pairs};
+// Which array reader the line of a letter has. The two functions stay apart, each with a match of its own: the project's scope has
+// the character, as a case of a match, select a line's kind and its reader, and P is a line of numbers on one sheet and of pairs on
+// the other.
+ghost use Rattle.std.specs.Prelude.{◌≤◌};
+ghost use Rattle.parts.specs.Fixed.{elements};
+ghost use Rattle.sheet.specs.Reading.{ParsesAs};
+ghost use Rattle.sheets.specs.Grammar.{line_of_numbers, line_of_pairs};
 
-use crate::lines::Pair;
-use crate::lines::readers::{read_numbers, read_pairs};
+use crate::lines::items::read_items;
+use crate::lines::{Pair, PairLimits};
+use parts::fixed::FixedList;
 use sheet::cursor::Cursor;
 use sheet::fault::SheetFault;
 use sheet::symbol::Limits;
 
-// The counts of tasks, processors and parts, the numbers of a task and of a processor, and periods, costs and windows.
+// The counts of tasks, processors and parts, periods, costs and windows, and the place and the amounts of a part.
 const TASKS: Limits = Limits { least: 1, most: 32 };
 
 const PROCESSORS: Limits = Limits { least: 1, most: 8 };
 
 const PARTS: Limits = Limits { least: 1, most: 64 };
 
-const TASK_NUMBER: Limits = Limits { least: 0, most: 31 };
-
-const PROCESSOR_NUMBER: Limits = Limits { least: 0, most: 7 };
-
 const TICKS: Limits = Limits {
     least: 1,
     most: 100_000,
+};
+
+const PLACE: PairLimits = PairLimits {
+    left: Limits { least: 0, most: 31 },
+    right: Limits { least: 0, most: 7 },
+};
+
+const AMOUNTS: PairLimits = PairLimits {
+    left: TICKS,
+    right: TICKS,
 };
 
 // The line of numbers that starts with the letter, on a sheet of `count` tasks.
@@ -30,15 +40,15 @@ pub(crate) fn number_line(
     cursor: &mut Cursor,
     letter: char,
     count: usize,
-) -> Result<[u32; 32], SheetFault>
+) -> Result<FixedList<u32, 32>, SheetFault>
     requires { count ≤ 32 }
-    ensures { line_of_numbers letter count cursor.old.at cursor.old.rest.now ≡ told_as (take (length (columns letter count))) result cursor.new.at cursor.new.rest.now }
+    ensures { ParsesAs elements (line_of_numbers letter count) cursor.old result cursor.new }
 {
     cursor.expect(letter)?;
     match letter {
-        'T' => read_numbers(cursor, &[TASKS, PROCESSORS]),
-        'K' => read_numbers(cursor, &[PARTS]),
-        'P' | 'C' => read_numbers(cursor, &[TICKS; 32][0..count]),
+        'T' => read_items(cursor, &[TASKS, PROCESSORS]),
+        'K' => read_items(cursor, &[PARTS]),
+        'P' | 'C' => read_items(cursor, &[TICKS; 32][0..count]),
         _ => Err(cursor.misspelt()),
     }
 }
@@ -48,14 +58,14 @@ pub(crate) fn pair_line(
     cursor: &mut Cursor,
     letter: char,
     count: usize,
-) -> Result<[Pair; 64], SheetFault>
+) -> Result<FixedList<Pair, 64>, SheetFault>
     requires { count ≤ 64 }
-    ensures { line_of_pairs letter count cursor.old.at cursor.old.rest.now ≡ told_as (take count) result cursor.new.at cursor.new.rest.now }
+    ensures { ParsesAs elements (line_of_pairs letter count) cursor.old result cursor.new }
 {
     cursor.expect(letter)?;
     match letter {
-        'P' => read_pairs(cursor, TASK_NUMBER, PROCESSOR_NUMBER, count),
-        'A' => read_pairs(cursor, TICKS, TICKS, count),
+        'P' => read_items(cursor, &[PLACE; 64][0..count]),
+        'A' => read_items(cursor, &[AMOUNTS; 64][0..count]),
         _ => Err(cursor.misspelt()),
     }
 }

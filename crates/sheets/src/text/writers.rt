@@ -1,103 +1,112 @@
 // What is added to a text.
-ghost use Rattle.std.specs.Prelude.{◌≡◌, ℕ, ◌+◌, ◌*◌, ◌<◌, ◌≤◌, true, [], ◌∷◌, ◌++◌, length, slice_index_or};
+ghost use Rattle.std.specs.Prelude.{◌≡◌, ℕ, ◌+◌, ◌<◌, ◌≤◌, true, [], ◌∷◌, ◌++◌, length, slice_index_or};
 ghost use Rattle.sheet.specs.Numerals.{numeral};
-ghost use Rattle.sheets.specs.Texts.{text_of, pair_text, place_text, amounts_text, items_text, plan_text, writable, no_part};
+ghost use Rattle.sheets.specs.Texts.{text_of, pair_shown, pair_of, letter_of, line_text, count_text, plan_text, writable, no_part};
 
-use crate::text::{MAX_TEXT, Text};
+use crate::lines::Pair;
+use crate::text::{Line, Text};
+use arrayvec::ArrayString;
+use itoa::{Buffer, Integer};
 use schedule::Part;
+
+impl Line {
+    // The letter that the line starts with.
+    fn letter(self) -> &'static str
+        ensures { result.now ≡ letter_of self ∷ [] }
+    {
+        match self {
+            Line::Places => "P",
+            Line::Amounts => "A",
+        }
+    }
+
+    // What stands on the line for a part.
+    fn pair(self, part: &Part) -> Pair
+        ensures { result ≡ pair_of self part.now }
+    {
+        match self {
+            Line::Places => Pair {
+                left: u32::from(part.task),
+                right: u32::from(part.processor),
+            },
+            Line::Amounts => Pair {
+                left: part.cost,
+                right: part.window,
+            },
+        }
+    }
+}
 
 impl Text {
     pub(crate) fn empty() -> Text
         ensures { text_of result ≡ [] }
     {
         Text {
-            bytes: [0; MAX_TEXT],
-            count: 0,
+            written: ArrayString::new(),
         }
     }
 
     pub(crate) fn as_slice(&self) -> &[u8]
         ensures { result.now ≡ text_of self.now }
     {
-        &self.bytes[0..self.count]
+        self.written.as_str().as_bytes()
     }
 
-    // Adds a byte.
-    fn push(&mut self, byte: u8)
-        requires { length (text_of self.old) + 1 ≤ 1225 }
-        ensures { text_of self.new ≡ text_of self.old ++ (byte ∷ []) }
+    // Adds a number. No fmt::Write here: no contract says that a write to one succeeds where there is room.
+    fn push_number<I: Integer>(&mut self, value: I)
+        requires { length (text_of self.old) + length (I.text value) ≤ 1225 }
+        ensures { text_of self.new ≡ text_of self.old ++ I.text value }
     {
-        let count = self.count;
-        self.bytes[count] = byte;
-        self.count = count + 1;
-    }
-
-    // Adds a number of up to six digits.
-    fn push_number(&mut self, value: u32)
-        requires { (value < 1000000) × (length (text_of self.old) + length (numeral value) ≤ 1225) }
-        ensures { text_of self.new ≡ text_of self.old ++ numeral value }
-    {
-        if value >= 10 {
-            self.push_number(value / 10);
-        }
-        self.push(b'0' + (value % 10) as u8);
+        let mut buffer = Buffer::new();
+        self.written.push_str(buffer.format(value));
     }
 
     // Adds a space and two numbers with a slash between them.
-    fn push_pair(&mut self, left: u32, right: u32)
-        requires { (left < 1000000) × ((right < 1000000) × (length (text_of self.old) + length (32 ∷ pair_text left right) ≤ 1225)) }
-        ensures { text_of self.new ≡ text_of self.old ++ (32 ∷ pair_text left right) }
+    fn push_pair(&mut self, pair: Pair)
+        requires six { (pair.left < 1000000) × (pair.right < 1000000) }
+        requires room { length (text_of self.old) + length (32 ∷ pair_shown pair) ≤ 1225 }
+        ensures { text_of self.new ≡ text_of self.old ++ (32 ∷ pair_shown pair) }
     {
-        self.push(b' ');
-        self.push_number(left);
-        self.push(b'/');
-        self.push_number(right);
+        self.written.push_str(" ");
+        self.push_number(pair.left);
+        self.written.push_str("/");
+        self.push_number(pair.right);
     }
 
     // Adds the line with the count of the parts.
     fn push_count(&mut self, count: usize)
-        requires { (count ≤ 64) × (length (text_of self.old) + 5 ≤ 1225) }
-        ensures { text_of self.new ≡ text_of self.old ++ (75 ∷ 32 ∷ (numeral count ++ (10 ∷ []))) }
+        requires few { count ≤ 64 }
+        requires room { length (text_of self.old) + length (count_text count) ≤ 1225 }
+        ensures { text_of self.new ≡ text_of self.old ++ count_text count }
     {
-        self.push(b'K');
-        self.push(b' ');
-        self.push_number(count as u32);
-        self.push(b'\n');
+        self.written.push_str("K ");
+        self.push_number(count);
+        self.written.push_str("\n");
     }
 
-    // Adds the line with the task and the processor of each part.
-    fn push_places(&mut self, parts: &[Part])
-        requires { (((i : ℕ) → i < length parts.now → writable (slice_index_or parts.now i no_part) ≡ true)) × (length (text_of self.old) + 5 * length parts.now + 2 ≤ 1225) }
-        ensures { text_of self.new ≡ text_of self.old ++ (80 ∷ items_text place_text parts.now) }
+    // Adds a line with a pair for each part.
+    fn push_line(&mut self, line: Line, parts: &[Part])
+        requires each { (i : ℕ) → i < length parts.now → writable (slice_index_or parts.now i no_part) ≡ true }
+        requires room { length (text_of self.old) + length (line_text line parts.now) ≤ 1225 }
+        ensures { text_of self.new ≡ text_of self.old ++ line_text line parts.now }
     {
-        self.push(b'P');
+        self.written.push_str(line.letter());
         for part in parts {
-            self.push_pair(part.task as u32, part.processor as u32);
+            self.push_pair(line.pair(part));
         }
-        self.push(b'\n');
-    }
-
-    // Adds the line with the cost and the window of each part.
-    fn push_amounts(&mut self, parts: &[Part])
-        requires { (((i : ℕ) → i < length parts.now → writable (slice_index_or parts.now i no_part) ≡ true)) × (length (text_of self.old) + 14 * length parts.now + 2 ≤ 1225) }
-        ensures { text_of self.new ≡ text_of self.old ++ (65 ∷ items_text amounts_text parts.now) }
-    {
-        self.push(b'A');
-        for part in parts {
-            self.push_pair(part.cost, part.window);
-        }
-        self.push(b'\n');
+        self.written.push_str("\n");
     }
 
     // The plan sheet of the parts.
     pub(crate) fn of_plan(parts: &[Part]) -> Text
-        requires { (((i : ℕ) → i < length parts.now → writable (slice_index_or parts.now i no_part) ≡ true)) × (length parts.now ≤ 64) }
+        requires each { (i : ℕ) → i < length parts.now → writable (slice_index_or parts.now i no_part) ≡ true }
+        requires few { length parts.now ≤ 64 }
         ensures { text_of result ≡ plan_text parts.now }
     {
         let mut text = Text::empty();
         text.push_count(parts.len());
-        text.push_places(parts);
-        text.push_amounts(parts);
+        text.push_line(Line::Places, parts);
+        text.push_line(Line::Amounts, parts);
         text
     }
 }

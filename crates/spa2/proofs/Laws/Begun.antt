@@ -8,14 +8,14 @@ use Rattle.spa2.specs.declared.state.Standing.{Standing}
 use Rattle.spa2.specs.declared.state.Standing.TheVariants.{Open, Reserved}
 use Rattle.spa2.specs.Laws.{is_beforehand, load_share, load_on}
 use Rattle.spa2.specs.Loads.{heavy}
-use Rattle.spa2.specs.Placing.{Tasks, State, load_at, followers, threshold, started, placed, free, goes_beforehand, beforehand, pieced, visited, visited_from, opens}
+use Rattle.spa2.specs.Placing.{Tasks, State, load_at, followers, threshold, started, placed, free, goes_beforehand, beforehand, pieced, visited, visited_from, opens, Visiting}
 use Rattle.spa2.proofs.Laws.Cuts.{Closing, closing_push, closing_pieces}
 use Rattle.spa2.proofs.Laws.Each.{Each, each_push, each_map, has_piece, total_push}
 use Rattle.spa2.proofs.Laws.Fair.{Sane, KnownPart, KnownPiece, Distinct}
 use Rattle.spa2.proofs.Laws.Seats.{standing_at, standing_same, standing_other, Seated, seated_other, above_absent, open_full}
 use Rattle.spa2.proofs.Laws.Sums.{piece_work, work_push, share_first}
 use Rattle.spa2.proofs.Scans.{idle}
-use Rattle.spa2.proofs.Visits.{Visiting, visited_visiting}
+use Rattle.spa2.proofs.Visits.{visited_visiting}
 use Rattle.spa2.proofs.Weights.{counts, opens_set}
 
 -- One visit more, at the end.

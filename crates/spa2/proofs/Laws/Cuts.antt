@@ -76,7 +76,3 @@ closing_pieces xs ws new (q ∷ ys) f h = (
       ]),
   closing_pieces xs ws new ys f.1 h.1,
 )
-
--- No two parts of one task are on one processor.
-pub closing_apart : (xs : List Processor) (ws : List Piece) (q : Part) (ys : List Part) → Closing xs ws (q ∷ ys) → has_part q.task ys ≡ true → has_on q.processor ys ≡ false
-closing_apart xs ws q ys h e = (h.0 (or_left (has_part q.task ys) (has_piece q.task ws) e)).1

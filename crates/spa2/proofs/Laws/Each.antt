@@ -1,5 +1,7 @@
 -- What holds of each element of a list, and sums over a list with one element more.
-use Rattle.std.proofs.Common.{◌≡◌, ℕ, zero, suc, ◌+◌, ◌<◌, Bool, true, false, ◌||◌, eqb, List, [], ◌∷◌, ◌++◌, length, get_or, refl, ap, ◌∙◌, arith}
+use Rattle.std.proofs.Common.{◌≡◌, ℕ, zero, suc, ◌+◌, ◌<◌, Bool, ◌||◌, eqb, List, [], ◌∷◌, ◌++◌, length, get_or, refl, arith}
+use Rattle.std.specs.List.{list_any}
+use Rattle.std.proofs.lemmas.List.Recursion.{or_push}
 use Rattle.schedule.specs.declared.Part.{Part}
 use Rattle.schedule.specs.Lists.{total}
 use Rattle.spa2.specs.declared.piece.Piece.{Piece}
@@ -31,23 +33,12 @@ pub total_push : {A : Type 0} (f : A → ℕ) (xs : List A) (x : A) → total f 
 total_push f [] x = omega arith
 total_push f (y ∷ ys) x = omega (arith, total_push f ys x)
 
-or_assoc : (a b c : Bool) → (a || (b || c)) ≡ ((a || b) || c)
-or_assoc true b c = refl
-or_assoc false b c = refl
-
-or_none : (a : Bool) → (a || false) ≡ a
-or_none true = refl
-or_none false = refl
-
 pub has_part_push : (i : ℕ) (qs : List Part) (r : Part) → has_part i (qs ++ (r ∷ [])) ≡ (has_part i qs || eqb r.task i)
-has_part_push i [] r = or_none (eqb r.task i)
-has_part_push i (q ∷ qs) r = ap (λ (b : Bool). eqb q.task i || b) (has_part_push i qs r) ∙ or_assoc (eqb q.task i) (has_part i qs) (eqb r.task i)
+has_part_push i qs r = or_push (has_part i) (λ q. eqb q.task i) refl (λ q rs. refl) qs r
 
 pub has_on_push : (p : ℕ) (qs : List Part) (r : Part) → has_on p (qs ++ (r ∷ [])) ≡ (has_on p qs || eqb r.processor p)
-has_on_push p [] r = or_none (eqb r.processor p)
-has_on_push p (q ∷ qs) r = ap (λ (b : Bool). eqb q.processor p || b) (has_on_push p qs r) ∙ or_assoc (eqb q.processor p) (has_on p qs) (eqb r.processor p)
+has_on_push p qs r = or_push (has_on p) (λ q. eqb q.processor p) refl (λ q rs. refl) qs r
 
 -- Some piece of the list is one of task i.
 abbrev pub has_piece : ℕ → List Piece → Bool
-has_piece i [] = false
-has_piece i (x ∷ xs) = eqb x.task i || has_piece i xs
+has_piece i xs = list_any (λ x. eqb x.task i) xs

@@ -1,16 +1,17 @@
 -- What does not look at windows is the same before and after they are given.
-use Rattle.std.proofs.Common.{◌≡◌, ℕ, zero, suc, ◌<◌, Bool, true, false, cond, ◌||◌, eqb, List, [], ◌∷◌, ◌++◌, map, length, Ok, Err, Option, sym, refl, ap, ◌∙◌, inl, inr, arith}
-use Rattle.std.proofs.lemmas.Bool.{cases_Bool, or_left, or_right, eq-eqb, both_ways}
+use Rattle.std.proofs.Common.{◌≡◌, ℕ, zero, suc, ◌<◌, Bool, true, false, ◌||◌, eqb, List, [], ◌∷◌, ◌++◌, map, length, append-nil, append_assoc, Ok, Option, sym, refl, ap, ◌∙◌, arith}
+use Rattle.std.proofs.lemmas.List.{map-append}
+use Rattle.std.proofs.lemmas.Bool.{or_left, or_right, eq-eqb, both_ways}
 use Rattle.schedule.specs.declared.Part.{Part}
 use Rattle.schedule.specs.Lists.{total}
 use Rattle.plan.specs.Checks.{part_at}
-use Rattle.parts.specs.declared.fault.PlanFault.TheVariants.{Squeezed}
 use Rattle.spa2.specs.declared.piece.Piece.{Piece}
 use Rattle.spa2.specs.declared.state.Processor.{Processor}
 use Rattle.spa2.specs.Laws.{has_on}
 use Rattle.spa2.specs.Placing.{Tasks}
-use Rattle.spa2.specs.Windows.{has_part, with_own_window, window_of, windowed_from}
-use Rattle.spa2.proofs.Keeping.{ok_same, err_never}
+use Rattle.spa2.proofs.Windowing.{windowed_next}
+use Rattle.spa2.specs.Windows.{has_part, with_own_window, windowed_from}
+use Rattle.spa2.proofs.Keeping.{ok_same}
 use Rattle.spa2.proofs.Laws.Cuts.{Closing, goes_on}
 use Rattle.spa2.proofs.Laws.Each.{Each, has_piece}
 
@@ -30,10 +31,6 @@ has_on_bare : (k : ℕ) (ps : List Part) → has_on k ps ≡ has_on k (map bare 
 has_on_bare k [] = refl
 has_on_bare k (p ∷ ps) = ap (λ (b : Bool). eqb p.processor k || b) (has_on_bare k ps)
 
-pub length_bare : (ps : List Part) → length ps ≡ length (map bare ps)
-length_bare [] = refl
-length_bare (p ∷ ps) = omega (arith, length_bare ps)
-
 pub each_bare : (P : Part → Type 0) → ((p : Part) → P (bare p) → P p) → (ps : List Part) → Each P (map bare ps) → Each P ps
 each_bare P f [] h = tt
 each_bare P f (p ∷ ps) h = (f p h.0, each_bare P f ps h.1)
@@ -48,28 +45,14 @@ closing_bare xs ws (p ∷ ps) h = (
   closing_bare xs ws ps h.1,
 )
 
-map_push : (ps : List Part) (p : Part) (rest : List Part) → map bare (ps ++ (p ∷ [])) ++ rest ≡ map bare ps ++ (bare p ∷ rest)
-map_push [] p rest = refl
-map_push (q ∷ ps) p rest = ap (λ (l : List Part). bare q ∷ l) (map_push ps p rest)
-
-nothing_more : (ps : List Part) → ps ++ [] ≡ ps
-nothing_more [] = refl
-nothing_more (p ∷ ps) = ap (λ (l : List Part). p ∷ l) (nothing_more ps)
-
 -- Windows are all that is changed.
 pub windowed_bare : (t : Tasks) (respond : Part → ℕ → Option ℕ) (rest done qs : List Part) → windowed_from t respond done rest ≡ Ok qs →
     map bare qs ≡ map bare done ++ map bare rest
-windowed_bare t respond [] done qs e = sym (ap (λ (l : List Part). map bare l) (ok_same done qs e)) ∙ sym (nothing_more (map bare done))
+windowed_bare t respond [] done qs e = sym (ap (λ (l : List Part). map bare l) (ok_same done qs e)) ∙ sym (append-nil (map bare done))
 windowed_bare t respond (p ∷ rest) done qs e =
-    let w = window_of t respond done p rest in
-    let q = with_own_window p w in
-    elim (cases_Bool (eqb w 0)) [
-      | inl b ↦ absurd (err_never (Squeezed (length done)) qs (rw b at e))
-      | inr b ↦
-          let on : windowed_from t respond (done ++ (q ∷ [])) rest ≡ Ok qs =
-          sym (ap (λ (v : Bool). cond v (Err (Squeezed (length done))) (windowed_from t respond (done ++ (q ∷ [])) rest)) b) ∙ e in
-          windowed_bare t respond rest (done ++ (q ∷ [])) qs on ∙ map_push done q (map bare rest)
-    ]
+    let next = windowed_next t respond done p rest qs e in
+    let q = with_own_window p next.0 in
+    windowed_bare t respond rest (done ++ (q ∷ [])) qs next.2 ∙ (ap (λ (l : List Part). l ++ map bare rest) (map-append bare done (q ∷ [])) ∙ append_assoc (map bare done) (bare q ∷ []) (map bare rest))
 
 -- A part of the list is found in it.
 pub has_part_at : (ps : List Part) (k i : ℕ) → k < length ps → (part_at ps k).task ≡ i → has_part i ps ≡ true

@@ -1,5 +1,6 @@
 -- Every proposed plan is lawful.
-use Rattle.std.proofs.Common.{◌≡◌, ℕ, ◌+◌, ◌<◌, ◌≤◌, Bool, true, false, cond, not, ◌&&◌, ◌||◌, eqb, ltb, leb, List, [], ◌∷◌, map, length, is_some, IfOk, None, Ok, Err, Option, Result, unwrap_or, sym, refl, ap, ◌∙◌, subst, inl, inr, arith}
+use Rattle.std.proofs.Common.{◌≡◌, ℕ, ◌+◌, ◌<◌, ◌≤◌, Bool, true, false, cond, not, ◌&&◌, ◌||◌, eqb, ltb, leb, List, [], ◌∷◌, map, length, is_some, IfOk, Some, None, Ok, Err, Option, Result, sym, refl, ap, ◌∙◌, subst, inl, inr, arith}
+use Rattle.std.proofs.lemmas.List.{length-map}
 use Rattle.std.proofs.lemmas.Bool.{cases_eq, and_left, and_right, or_from, lt-leb, ne_eqb, eq-eqb, le-ltb}
 use Rattle.std.proofs.lemmas.Bool.Decides.{nat_tests}
 use Rattle.std.specs.Option.{option_or, option_map}
@@ -27,7 +28,7 @@ use Rattle.spa2.proofs.Laws.Cuts.{Closing}
 use Rattle.spa2.proofs.Laws.Each.{Each, each_at}
 use Rattle.spa2.proofs.Laws.Fair.{Sane, KnownPart}
 use Rattle.spa2.proofs.Laws.Placed.{PlacedWell, placed_well}
-use Rattle.spa2.proofs.Laws.Plain.{bare, total_bare, length_bare, each_bare, closing_bare, bare_closing, windowed_bare, closing_twins, closing_at}
+use Rattle.spa2.proofs.Laws.Plain.{bare, total_bare, each_bare, closing_bare, bare_closing, windowed_bare, closing_twins, closing_at}
 use Rattle.spa2.proofs.Laws.Spans.{Fit, Spanned, windowed_well}
 
 pub sane_set : (s : TaskSet) → Sane (tasks_of s)
@@ -87,7 +88,7 @@ module _ (set : TaskSet) (m : ℕ) (before : TaskKey → TaskKey → Bool) (curv
       known_bare (r ∷ rs) h = (h.0, known_bare rs h.1)
 
   many : length qs ≤ count_of set + m
-  many = omega (arith, length_bare qs, ap (λ (l : List Part). length l) same, length_bare ps, well.few)
+  many = omega (arith, length-map qs bare, ap (λ (l : List Part). length l) same, length-map ps bare, well.few)
 
   worked : (i : ℕ) → i < count_of set → work_of qs i ≡ cost_of set i
   worked i l =
@@ -169,7 +170,7 @@ module _ (set : TaskSet) (m : ℕ) (before : TaskKey → TaskKey → Bool) (curv
 
 -- The parts that are placed and have their windows are lawful.
 pub lawful_plan : (set : TaskSet) (m : ℕ) (before : TaskKey → TaskKey → Bool) (curve : ℕ → ℕ → ℕ) (respond : Part → ℕ → Option ℕ) (ps qs : List Part) →
-    ((p : Part) (L : ℕ) → unwrap_or (respond p L) 0 ≤ L) → 1 ≤ m → m ≤ 8 → 1 ≤ length qs → parts_placed (tasks_of set) m ≡ Ok ps → windowed (tasks_of set) respond ps ≡ Ok qs →
+    ((p : Part) (L w : ℕ) → respond p L ≡ Some w → w ≤ L) → 1 ≤ m → m ≤ 8 → 1 ≤ length qs → parts_placed (tasks_of set) m ≡ Ok ps → windowed (tasks_of set) respond ps ≡ Ok qs →
     Lawful set m before curve qs
 lawful_plan set m before curve respond ps qs most low high some placed given =
     let windows = windowed_well (tasks_of set) respond most ps [] qs tt (λ i a b. absurd (nothing_there a)) given in

@@ -1,8 +1,8 @@
 // The three steps in turn: from a task set to the parts of its tasks.
-ghost use Rattle.std.specs.Prelude.{◌≡◌, ℕ, ◌+◌, ◌-◌, ◌<◌, ◌≤◌, true, [], length, MatchResult};
+ghost use Rattle.std.specs.Prelude.{◌≡◌, ℕ, ◌+◌, ◌≤◌, [], length};
 ghost use Rattle.parts.specs.Parts.{parts_of};
 ghost use Rattle.tasks.specs.Sets.{count_of};
-ghost use Rattle.spa2.specs.Placing.{tasks_of, visited_from, started, turns, outcome, weight};
+ghost use Rattle.spa2.specs.Placing.{Visiting, tasks_of, visited_from, turns, outcome, weight};
 ghost use Rattle.spa2.specs.Seen.{seen};
 
 use crate::piece::Piece;
@@ -34,12 +34,13 @@ impl<'a> Planner<'a> {
 
     // Step 1 for all tasks.
     pub(crate) fn visit_all(&mut self, set: &TaskSet)
-        requires { (length (seen self.old).pieces ≡ 0) × (length (seen self.old).reserve ≡ 0) × (length (seen self.old).parts ≡ 0) }
+        requires { Visiting (seen self.old) 0 }
         ensures after { seen self.new ≡ visited_from (tasks_of set.now) (seen self.old) 0 (count_of set.now) }
         ensures enough { weight (seen self.new) ≤ count_of set.now + length (seen self.old).processors }
         ensures light { length (seen self.new).parts + weight (seen self.new) ≤ 64 }
     {
-        for task in 0..set.count() {
+        // over numbers: a set has no list of its tasks, and each visit changes the planner. `as`: at most 32 tasks, which is proved
+        for task in 0..set.count() as u8 {
             self.visit(set, task);
         }
     }
@@ -50,12 +51,7 @@ impl<'a> Planner<'a> {
         ensures { (k : ℕ) → weight (seen self.old) ≤ k → turns (tasks_of set.now) k (seen self.old) ≡ outcome result (seen self.new).parts }
     {
         while let Some(piece) = self.pieces.take_front() {
-            let Some(choice) = self.choose() else {
-                return Err(PlanFault::Unplaced {
-                    task: piece.task as usize,
-                });
-            };
-            self.place(set, piece, choice)?;
+            self.turn(set, piece)?;
         }
         Ok(())
     }

@@ -1,15 +1,13 @@
 // Steps 2 and 3: a processor is chosen for the front piece, which is placed whole or cut.
-ghost use Rattle.std.specs.Prelude.{◌≡◌, ◌+◌, ◌<◌, ◌≤◌, true, false, length, IfSome, is_ok, MatchOption};
-ghost use Rattle.spa2.specs.Loads.{load_of};
-ghost use Rattle.spa2.specs.Placing.{tasks_of, chosen, after_choice, number_of, processor_at, fits_whole, whole, split, settled, returned, with_cut, with_reserve, with_parts};
+ghost use Rattle.std.specs.Prelude.{◌≡◌, ◌<◌, true, false, length, IfSome, is_ok, MatchOption, MatchResult, Some, None};
+ghost use Rattle.parts.specs.declared.fault.PlanFault.TheVariants.{Unplaced};
+ghost use Rattle.spa2.specs.Placing.{tasks_of, chosen, after_choice, number_of, fits_whole, whole, split, turn, Ready, with_cut, with_parts};
 ghost use Rattle.spa2.specs.Seen.{seen};
 
-use crate::load::{cut_cost, load};
-use crate::piece::Piece;
+use crate::load::{cut_cost, threshold_of};
+use crate::piece::{Piece, Remainder};
 use crate::state::{Choice, Planner, Processor, Standing};
-use crate::theta::theta;
 use parts::fault::PlanFault;
-use schedule::Part;
 use tasks::set::TaskSet;
 
 impl Choice {
@@ -25,7 +23,7 @@ impl Choice {
 
 impl<'a> Planner<'a> {
     // The processor that the next piece goes to, if there is one. One of the reserve is taken from there.
-    pub(super) fn choose(&mut self) -> Option<Choice>
+    fn choose(&mut self) -> Option<Choice>
         ensures value { result ≡ chosen (seen self.old) }
         ensures after { MatchOption result (seen self.new ≡ seen self.old) (λ c. seen self.new ≡ after_choice (seen self.old) c) }
         ensures known { IfSome result (λ c. number_of c < length (seen self.new).processors) }
@@ -33,108 +31,69 @@ impl<'a> Planner<'a> {
         if let Some(seat) = self.least_loaded() {
             return Some(Choice::Normal(seat.number));
         }
-        match self.reserve.take_front() {
-            Some(number) => Some(Choice::Spare(number)),
-            None => None,
-        }
-    }
-
-    // Puts a chosen processor that came from the reserve back to its front.
-    fn give_back(&mut self, choice: Choice)
-        requires known { number_of choice < length (seen self.old).processors }
-        requires room { length (returned choice (seen self.old).reserve) ≤ 8 }
-        ensures { seen self.new ≡ with_reserve (seen self.old) (returned choice (seen self.old).reserve) }
-    {
-        if let Choice::Spare(number) = choice {
-            let _ = self.reserve.push_front(number);
-        }
+        self.reserve.take_front().map(Choice::Spare)
     }
 
     // Lists the part that was cut off, where there is any of it.
-    fn list_cut(&mut self, first: Piece, number: usize)
-        requires known { number < length (seen self.old).processors }
-        requires few { length (seen self.old).parts < 64 }
-        ensures { seen self.new ≡ with_parts (seen self.old) (with_cut first.task number first.cost (seen self.old).parts) }
+    fn list_cut(&mut self, first: Piece, processor: u8)
+        requires { length (seen self.old).parts < 64 }
+        ensures { seen self.new ≡ with_parts (seen self.old) (with_cut first.task processor first.cost (seen self.old).parts) }
     {
         if first.cost >= 1 {
-            let _ = self.parts.push(Part {
-                task: first.task,
-                processor: number as u8,
-                cost: first.cost,
-                window: 0,
-            });
+            self.parts.push(first.on(processor)).unwrap();
         }
     }
 
     // Places a piece whole. A processor of the reserve returns to its front.
     fn place_whole(&mut self, set: &TaskSet, piece: Piece, choice: Choice)
-        requires known { number_of choice < length (seen self.old).processors }
+        requires ready { Ready (seen self.old) choice }
         requires whole { fits_whole (tasks_of set.now) (seen self.old) piece (number_of choice) ≡ true }
-        requires few { length (seen self.old).parts < 64 }
-        requires room { length (returned choice (seen self.old).reserve) ≤ 8 }
         ensures { seen self.new ≡ whole (tasks_of set.now) (seen self.old) piece choice }
     {
         let number = choice.number();
-        let old = self.processors[number];
-        let load = old.load + load(piece.cost, set.period(piece.task as usize));
-        self.processors[number] = Processor {
-            load,
-            standing: old.standing,
-        };
-        self.give_back(choice);
-        let _ = self.parts.push(Part {
-            task: piece.task,
-            processor: number as u8,
-            cost: piece.cost,
-            window: 0,
-        });
+        self.processors[number].load += piece.load(set);
+        // `as`, as below: one of 8 processors, which is proved; a TryFrom would bring an error that cannot come
+        self.parts.push(piece.on(number as u8)).unwrap();
+        if let Choice::Spare(number) = choice {
+            self.reserve.push_front(number).unwrap();
+        }
     }
 
     // Places as much of a piece as its processor can take, which is then full. What is left goes in front.
     fn place_cut(&mut self, set: &TaskSet, piece: Piece, choice: Choice) -> Result<(), PlanFault>
-        requires known { number_of choice < length (seen self.old).processors }
+        requires ready { Ready (seen self.old) choice }
         requires cut { fits_whole (tasks_of set.now) (seen self.old) piece (number_of choice) ≡ false }
-        requires few { length (seen self.old).parts < 64 }
-        requires room { length (seen self.old).pieces < 32 }
         ensures done { is_ok result ≡ true }
         ensures after { seen self.new ≡ split (tasks_of set.now) (seen self.old) piece choice }
     {
         let number = choice.number();
         let old = self.processors[number];
-        let period = set.period(piece.task as usize);
-        let (first, rest) = piece.cut(cut_cost(old.load, theta(set.count()), period));
-        let load = old.load + load(first.cost, period);
+        let period = set.period(usize::from(piece.task));
+        let (first, rest) = piece.cut(cut_cost(old.load, threshold_of(set), period));
         self.processors[number] = Processor {
-            load,
+            load: old.load + first.load(set),
             standing: Standing::Full,
         };
-        self.list_cut(first, number);
-        match rest.put_back(&mut self.pieces) {
-            Ok(()) => Ok(()),
-            Err(rest) => Err(rest.give_up()),
-        }
+        self.list_cut(first, number as u8);
+        rest.put_back(&mut self.pieces).map_err(Remainder::give_up)
     }
 
-    // Places a piece on the chosen processor, whole or cut.
-    pub(super) fn place(
-        &mut self,
-        set: &TaskSet,
-        piece: Piece,
-        choice: Choice,
-    ) -> Result<(), PlanFault>
-        requires known { number_of choice < length (seen self.old).processors }
+    // A turn: a processor is chosen for the piece, which is placed there whole or cut. Without one the plan is refused.
+    pub(super) fn turn(&mut self, set: &TaskSet, piece: Piece) -> Result<(), PlanFault>
         requires few { length (seen self.old).parts < 64 }
-        requires piece_room { length (seen self.old).pieces < 32 }
-        requires reserve_room { length (returned choice (seen self.old).reserve) ≤ 8 }
-        ensures done { is_ok result ≡ true }
-        ensures after { seen self.new ≡ settled (tasks_of set.now) (seen self.old) piece choice }
+        requires room { length (seen self.old).pieces < 32 }
+        ensures { MatchResult result (λ _. turn (tasks_of set.now) (seen self.old) piece ≡ Some (seen self.new)) (λ e. (turn (tasks_of set.now) (seen self.old) piece ≡ None) × (e ≡ Unplaced piece.task)) }
     {
+        let Some(choice) = self.choose() else {
+            return Err(PlanFault::Unplaced {
+                task: usize::from(piece.task),
+            });
+        };
         let old = self.processors[choice.number()];
-        let load = load(piece.cost, set.period(piece.task as usize));
-        if old.load.saturating_add(load) <= theta(set.count()) {
-            self.place_whole(set, piece, choice);
-            return Ok(());
+        if old.load.saturating_add(piece.load(set)) > threshold_of(set) {
+            return self.place_cut(set, piece, choice);
         }
-        self.place_cut(set, piece, choice)
+        self.place_whole(set, piece, choice);
+        Ok(())
     }
 }

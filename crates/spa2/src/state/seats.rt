@@ -1,9 +1,9 @@
 // Which of the processors is the least loaded.
 ghost use Rattle.std.specs.Prelude.{◌≡◌};
-ghost use Rattle.spa2.specs.Choices.{least_loaded_seat, better, considered, LeastOpen};
+ghost use Rattle.spa2.specs.Choices.{is_open, least_loaded_seat, LeastOpen};
 ghost use Rattle.spa2.specs.Seen.{seen};
 
-use crate::state::{Planner, Processor, Standing};
+use crate::state::{Planner, Standing};
 
 // An open processor: its number and its load.
 #[derive(Clone, Copy)]
@@ -12,29 +12,12 @@ pub struct Seat {
     pub load: u64,
 }
 
-// The better of the best so far and a later one: only a smaller load is better, so that of equal loads the smallest number stays.
-fn better_seat(best: Option<Seat>, seat: Seat) -> Option<Seat>
-    ensures { result ≡ better best seat }
-{
-    match best {
-        Some(old) if old.load <= seat.load => best,
-        _ => Some(seat),
-    }
-}
-
-// The best so far once one more processor is looked at: only an open one counts.
-fn considered_seat(best: Option<Seat>, number: usize, processor: Processor) -> Option<Seat>
-    ensures { result ≡ considered best number processor }
-{
-    match processor.standing {
-        Standing::Open => better_seat(
-            best,
-            Seat {
-                number,
-                load: processor.load,
-            },
-        ),
-        Standing::Reserved | Standing::Full => best,
+impl Standing {
+    // Whether the processor may be chosen for any piece.
+    fn is_open(self) -> bool
+        ensures { result ≡ is_open self }
+    {
+        matches!(self, Standing::Open)
     }
 }
 
@@ -44,10 +27,14 @@ impl<'a> Planner<'a> {
         ensures value { result ≡ least_loaded_seat (seen self.now).processors }
         ensures least { LeastOpen (seen self.now).processors result }
     {
-        let mut best = None;
-        for number in 0..self.processors.len() {
-            best = considered_seat(best, number, self.processors[number]);
-        }
-        best
+        self.processors
+            .iter()
+            .enumerate()
+            .filter(|(_, processor)| processor.standing.is_open())
+            .min_by_key(|(_, processor)| processor.load)
+            .map(|(number, processor)| Seat {
+                number,
+                load: processor.load,
+            })
     }
 }

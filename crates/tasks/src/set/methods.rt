@@ -1,49 +1,43 @@
 // How a task set is made, and what can be asked of it.
-ghost use Rattle.std.specs.Prelude.{◌≡◌, ℕ, ◌<◌, length, slice_index};
+ghost use Rattle.std.specs.Prelude.{◌≡◌, ℕ, ◌<◌, ◌≤◌, length, take, Some, slice_get, slice_index};
 ghost use Rattle.tasks.specs.Searches.{first_where};
-ghost use Rattle.tasks.specs.Sets.{Made, Holds, off_scale, falls, overfull, on_scale, miscounted, count_of, period_of, cost_of, key_of};
+ghost use Rattle.tasks.specs.Sets.{Made, Holds, off_scale, falls, overfull, on_scale, miscounted, count_of, task_list, period_of, cost_of, key_of};
 
 use crate::fault::SetFault;
 use crate::order::TaskKey;
-use crate::set::{MAX_TASKS, MAX_TICKS, TaskSet};
+use crate::set::{MAX_TASKS, MAX_TICKS, Task, TaskSet};
 
 // Whether the count of tasks is outside 1 to 32, or the two lists are not equally long.
 pub fn is_miscounted(values: &[u32], others: &[u32]) -> bool
     ensures { result ≡ miscounted values.now others.now }
 {
-    values.len() == 0 || values.len() > MAX_TASKS || others.len() != values.len()
+    !(1..=MAX_TASKS).contains(&values.len()) || others.len() != values.len()
 }
 
 // Whether a period, a cost or a refill time is within its limits.
 pub fn is_on_scale(ticks: u32) -> bool
     ensures { result ≡ on_scale ticks }
 {
-    1 <= ticks && ticks <= MAX_TICKS
+    (1..=MAX_TICKS).contains(&ticks)
 }
+
+// The searches take the two lists as `new` is given them: a struct of both would only be made and taken apart for one call.
 
 // The first task whose period or cost is outside its limits.
 fn first_off_scale(periods: &[u32], costs: &[u32]) -> Option<usize>
     requires { length costs.now ≡ length periods.now }
     ensures { result ≡ first_where (off_scale periods.now costs.now) (length periods.now) }
 {
-    for i in 0..periods.len() {
-        if !is_on_scale(periods[i]) || !is_on_scale(costs[i]) {
-            return Some(i);
-        }
-    }
-    None
+    periods.iter().zip(costs).position(|(period, cost)| {
+        !is_on_scale(*period) || !is_on_scale(*cost)
+    })
 }
 
 // The first task whose period is below the one before it.
 fn first_falling(periods: &[u32]) -> Option<usize>
     ensures { result ≡ first_where (falls periods.now) (length periods.now) }
 {
-    for i in 0..periods.len() {
-        if i > 0 && periods[i] < periods[i - 1] {
-            return Some(i);
-        }
-    }
-    None
+    (1..periods.len()).find(|i| periods[*i] < periods[*i - 1])
 }
 
 // The first task whose cost is above its period.
@@ -51,30 +45,35 @@ fn first_overfull(periods: &[u32], costs: &[u32]) -> Option<usize>
     requires { length costs.now ≡ length periods.now }
     ensures { result ≡ first_where (overfull periods.now costs.now) (length periods.now) }
 {
-    for i in 0..periods.len() {
-        if costs[i] > periods[i] {
-            return Some(i);
-        }
-    }
-    None
+    periods
+        .iter()
+        .zip(costs)
+        .position(|(period, cost)| cost > period)
 }
 
-// The values in an array of 32, with 0 after the last of them.
-fn padded(values: &[u32]) -> [u32; 32]
+// The tasks with these periods and costs, and past the last of them tasks that are never read.
+fn tasks_with(periods: &[u32], costs: &[u32]) -> [Task; MAX_TASKS]
+    requires few { length periods.now ≤ 32 }
+    requires as_many { length costs.now ≡ length periods.now }
     ensures whole { length result ≡ 32 }
-    ensures copied { (i : ℕ) → i < 32 → slice_index result i ≡ slice_index values.now i }
+    ensures each { (i : ℕ) → i < length periods.now → slice_get (take (length periods.now) result) i
+        ≡ Some (record { period = slice_index periods.now i; cost = slice_index costs.now i }) }
 {
-    let mut own = [0; 32];
-    for i in 0..MAX_TASKS {
-        if i < values.len() {
-            own[i] = values[i];
+    std::array::from_fn(|i| {
+        if i < periods.len() {
+            Task {
+                period: periods[i],
+                cost: costs[i],
+            }
+        } else {
+            Task { period: 1, cost: 0 }
         }
-    }
-    own
+    })
 }
 
 impl TaskSet {
-    // The set of the tasks with these periods and costs, or what is wrong with them.
+    // The set of the tasks with these periods and costs, or what is wrong with them. They come as two lists, since lists of
+    // different lengths are among the refusals that the rules name.
     pub fn new(periods: &[u32], costs: &[u32]) -> Result<TaskSet, SetFault>
         ensures { Made periods.now costs.now result }
     {
@@ -92,8 +91,7 @@ impl TaskSet {
         }
         Ok(TaskSet {
             count: periods.len(),
-            periods: padded(periods),
-            costs: padded(costs),
+            tasks: tasks_with(periods, costs),
         })
     }
 
@@ -103,8 +101,7 @@ impl TaskSet {
     {
         TaskSet {
             count: 1,
-            periods: [1; 32],
-            costs: [1; 32],
+            tasks: [Task { period: 1, cost: 1 }; MAX_TASKS],
         }
     }
 
@@ -115,26 +112,25 @@ impl TaskSet {
         self.count
     }
 
+    // The tasks of the set.
+    fn tasks(&self) -> &[Task]
+        ensures { result.now ≡ task_list self.now }
+    {
+        &self.tasks[..self.count]
+    }
+
     // The period of a task; 1 past the set's tasks.
     pub fn period(&self, task: usize) -> u32
         ensures { result ≡ period_of self.now task }
     {
-        if task < self.count {
-            self.periods[task]
-        } else {
-            1
-        }
+        self.tasks().get(task).map_or(1, |own| own.period)
     }
 
     // The cost of a task; 0 past the set's tasks.
     pub fn cost(&self, task: usize) -> u32
         ensures { result ≡ cost_of self.now task }
     {
-        if task < self.count {
-            self.costs[task]
-        } else {
-            0
-        }
+        self.tasks().get(task).map_or(0, |own| own.cost)
     }
 
     // The task as a priority order is told it.

@@ -4,7 +4,7 @@ use plan::check::check;
 use plan::checked::CheckedPlan;
 use rules::spaced::Spaced;
 use schedule::Part;
-use sheet::fault::Refusal;
+use sheet::fault::{Layer, Refusal};
 use tasks::rate_monotonic::RateMonotonic;
 use tasks::set::TaskSet;
 
@@ -57,7 +57,7 @@ fn refusal_of(
     }
 }
 
-fn refused(layer: char, number: u8, place: u64) -> Result<Option<Refusal>, Refusal> {
+fn refused(layer: Layer, number: u8, place: u64) -> Result<Option<Refusal>, Refusal> {
     Ok(Some(Refusal {
         layer,
         number,
@@ -78,35 +78,35 @@ fn refuses_each_with_its_place(rt: HostRuntime) {
     let [a, b, c, d] = cut_plan();
     assert_eq!(rt;
         refusal_of(9, &[a, b, c, d], &mut times),
-        refused('G', 3, 0)
+        refused(Layer::Set, 3, 0)
     );
     assert_eq!(rt;
         refusal_of(2, &[a, b, part(0, 1, 37, 0), d], &mut times),
-        refused('K', 3, 2)
+        refused(Layer::Plan, 3, 2)
     );
     assert_eq!(rt;
         refusal_of(2, &[a, part(3, 1, 60, 150), c, d], &mut times),
-        refused('K', 6, 1)
+        refused(Layer::Plan, 6, 1)
     );
     assert_eq!(rt;
         refusal_of(2, &[a, b, c, part(0, 1, 23, 63)], &mut times),
-        refused('K', 7, 3)
+        refused(Layer::Plan, 7, 3)
     );
     assert_eq!(rt;
         refusal_of(2, &[a, b, c, part(0, 0, 22, 63)], &mut times),
-        refused('K', 8, 0)
+        refused(Layer::Plan, 8, 0)
     );
     assert_eq!(rt;
         refusal_of(2, &[a, b, c, part(0, 0, 23, 64)], &mut times),
-        refused('K', 9, 0)
+        refused(Layer::Plan, 9, 0)
     );
     assert_eq!(rt;
         refusal_of(2, &[a, b, part(0, 1, 37, 36), d], &mut times),
-        refused('K', 10, 2)
+        refused(Layer::Plan, 10, 2)
     );
     assert_eq!(rt;
         refusal_of(2, &[a, b, c, d], &mut times[0..3]),
-        refused('K', 17, 4)
+        refused(Layer::Plan, 17, 4)
     );
     assert_eq!(rt; times, [7; 4]);
 }
@@ -116,7 +116,7 @@ fn refuses_an_empty_plan(rt: HostRuntime) {
     assert_eq!(rt;
         refusal_of(2, &[], &mut []),
         Err(Refusal {
-            layer: 'K',
+            layer: Layer::Plan,
             number: 3,
             place: 0,
         })

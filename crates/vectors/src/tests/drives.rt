@@ -1,5 +1,5 @@
 // A plan checked, started and driven by a list of calls, all in one.
-use driving::{Call, Outcome, drive};
+use driving::{Call, Done, Outcome, drive};
 use machine::fault::MachineFault;
 use parts::fault::PlanFault;
 use parts::lists::Proposal;
@@ -53,16 +53,13 @@ fn clock_after(
 // What a tick ran on the first processor; none where the call was no taken tick.
 fn ran(outcome: Outcome) -> Option<u8> {
     match outcome {
-        Outcome::Ran { bytes } => Some(bytes[0]),
-        Outcome::Taken | Outcome::Refused { .. } => None,
+        Ok(Done::Ran { bytes }) => Some(bytes[0]),
+        Ok(Done::Taken) | Err(_) => None,
     }
 }
 
 fn refusal(outcome: Outcome) -> Option<MachineFault> {
-    match outcome {
-        Outcome::Refused { fault } => Some(fault),
-        Outcome::Taken | Outcome::Ran { .. } => None,
-    }
+    outcome.err()
 }
 
 #[test]
@@ -80,7 +77,7 @@ fn every_call_is_answered(rt: HostRuntime) -> Result<(), Fail> {
         Call::Finish { task: 2 },
     ];
     let mut times = [7; 3];
-    let mut outcomes = [Outcome::Taken; 11];
+    let mut outcomes = [Ok(Done::Taken); 11];
     assert_eq!(rt; clock_after(16, &mut times, &calls, &mut outcomes)?, Ok(4));
     assert_eq!(rt; times, [5, 16, 7]);
     assert_eq!(rt;
@@ -114,9 +111,7 @@ fn a_late_plan_is_not_driven(rt: HostRuntime) -> Result<(), Fail> {
     let late = Err(MachineFault::Plan(PlanFault::Late { part: 1 }));
     let calls = [Call::Tick { room: 1 }; 2];
     let mut times = [7; 2];
-    let mut outcomes = [Outcome::Refused {
-        fault: MachineFault::WornOut,
-    }; 2];
+    let mut outcomes = [Err(MachineFault::WornOut); 2];
     assert_eq!(rt; clock_after(15, &mut times, &calls, &mut outcomes)?, late);
     // named before the room that the outcomes lack
     assert_eq!(rt; clock_after(15, &mut times, &calls, &mut [])?, late);

@@ -1,7 +1,7 @@
 // Sheets that are read, written and refused.
 use parts::lists::Proposal;
 use schedule::Part;
-use sheet::fault::Refusal;
+use sheet::fault::{Layer, Refusal};
 use sheets::reading::{read_both, read_plan_sheet, read_task_sheet};
 use sheets::writing::write_plan_sheet;
 use std::test::Fail;
@@ -48,7 +48,7 @@ fn refusal_of_writing(parts: &[Part], out: &mut [u8]) -> Option<Refusal> {
     }
 }
 
-fn refused(layer: char, number: u8, place: u64) -> Option<Refusal> {
+fn refused(layer: Layer, number: u8, place: u64) -> Option<Refusal> {
     Some(Refusal {
         layer,
         number,
@@ -68,48 +68,54 @@ fn reads_a_task_sheet(rt: HostRuntime) -> Result<(), Fail> {
 
 #[test]
 fn refuses_misspelt_bytes(rt: HostRuntime) {
-    assert_eq!(rt; refusal_of_tasks(b""), refused('S', 2, 0));
-    assert_eq!(rt; refusal_of_tasks(b"T 3"), refused('S', 2, 3));
-    assert_eq!(rt; refusal_of_tasks(b"T 3 2\r\n"), refused('S', 2, 5));
-    assert_eq!(rt; refusal_of_tasks(b"T 1  2\n"), refused('S', 2, 4));
+    assert_eq!(rt; refusal_of_tasks(b""), refused(Layer::Sheet, 2, 0));
+    assert_eq!(rt; refusal_of_tasks(b"T 3"), refused(Layer::Sheet, 2, 3));
+    assert_eq!(rt; refusal_of_tasks(b"T 3 2\r\n"), refused(Layer::Sheet, 2, 5));
+    assert_eq!(rt; refusal_of_tasks(b"T 1  2\n"), refused(Layer::Sheet, 2, 4));
     assert_eq!(rt;
         refusal_of_tasks(b"T 1 1\nP 10\nC 5\n\n"),
-        refused('S', 2, 15)
+        refused(Layer::Sheet, 2, 15)
     );
-    assert_eq!(rt; refusal_of_tasks(b"T 01 1\n"), refused('S', 2, 3));
+    assert_eq!(rt; refusal_of_tasks(b"T 01 1\n"), refused(Layer::Sheet, 2, 3));
     assert_eq!(rt;
         refusal_of_tasks(b"T 1 1\nP 1000000\n"),
-        refused('S', 2, 14)
+        refused(Layer::Sheet, 2, 14)
     );
 }
 
 #[test]
 fn weighs_a_number_after_its_stop(rt: HostRuntime) {
-    assert_eq!(rt; refusal_of_tasks(b"T 33 2\n"), refused('S', 3, 2));
-    assert_eq!(rt; refusal_of_tasks(b"T 33/2\n"), refused('S', 2, 4));
-    assert_eq!(rt; refusal_of_tasks(b"T 0 2\n"), refused('S', 3, 2));
-    assert_eq!(rt; refusal_of_tasks(b"T 1 9\n"), refused('S', 3, 4));
-    assert_eq!(rt; refusal_of_tasks(b"T 1 1\nP 100001\n"), refused('S', 3, 8));
+    assert_eq!(rt; refusal_of_tasks(b"T 33 2\n"), refused(Layer::Sheet, 3, 2));
+    assert_eq!(rt; refusal_of_tasks(b"T 33/2\n"), refused(Layer::Sheet, 2, 4));
+    assert_eq!(rt; refusal_of_tasks(b"T 0 2\n"), refused(Layer::Sheet, 3, 2));
+    assert_eq!(rt; refusal_of_tasks(b"T 1 9\n"), refused(Layer::Sheet, 3, 4));
+    assert_eq!(rt;
+        refusal_of_tasks(b"T 1 1\nP 100001\n"),
+        refused(Layer::Sheet, 3, 8)
+    );
 }
 
 #[test]
 fn refuses_what_is_no_task_set(rt: HostRuntime) {
     assert_eq!(rt;
         refusal_of_tasks(b"T 2 1\nP 10 9\nC 5 5\n"),
-        refused('G', 4, 1)
+        refused(Layer::Set, 4, 1)
     );
     assert_eq!(rt;
         refusal_of_tasks(b"T 2 1\nP 10 12\nC 5 13\n"),
-        refused('G', 5, 1)
+        refused(Layer::Set, 5, 1)
     );
 }
 
 #[test]
 fn refuses_overlong_input(rt: HostRuntime) {
     let long = [b'T'; 4097];
-    assert_eq!(rt; refusal_of_tasks(&long), refused('S', 1, 4096));
-    assert_eq!(rt; refusal_of_plan(&long), refused('S', 1, 4096));
-    assert_eq!(rt; refusal_of_plan(&long[0..4096]), refused('S', 2, 0));
+    assert_eq!(rt; refusal_of_tasks(&long), refused(Layer::Sheet, 1, 4096));
+    assert_eq!(rt; refusal_of_plan(&long), refused(Layer::Sheet, 1, 4096));
+    assert_eq!(rt;
+        refusal_of_plan(&long[0..4096]),
+        refused(Layer::Sheet, 2, 0)
+    );
 }
 
 #[test]
@@ -129,13 +135,22 @@ fn reads_and_writes_a_plan_sheet(rt: HostRuntime) -> Result<(), Fail> {
 
 #[test]
 fn refuses_plan_sheets(rt: HostRuntime) {
-    assert_eq!(rt; refusal_of_plan(b"K 65\n"), refused('S', 3, 2));
-    assert_eq!(rt; refusal_of_plan(b"K 1\nP 32/0\n"), refused('S', 3, 6));
-    assert_eq!(rt; refusal_of_plan(b"K 1\nP 31/8\n"), refused('S', 3, 9));
-    assert_eq!(rt; refusal_of_plan(b"K 1\nP 0 0\n"), refused('S', 2, 7));
+    assert_eq!(rt; refusal_of_plan(b"K 65\n"), refused(Layer::Sheet, 3, 2));
+    assert_eq!(rt;
+        refusal_of_plan(b"K 1\nP 32/0\n"),
+        refused(Layer::Sheet, 3, 6)
+    );
+    assert_eq!(rt;
+        refusal_of_plan(b"K 1\nP 31/8\n"),
+        refused(Layer::Sheet, 3, 9)
+    );
+    assert_eq!(rt;
+        refusal_of_plan(b"K 1\nP 0 0\n"),
+        refused(Layer::Sheet, 2, 7)
+    );
     assert_eq!(rt;
         refusal_of_plan(b"K 1\nP 0/0\nA 1/1\nK"),
-        refused('S', 2, 16)
+        refused(Layer::Sheet, 2, 16)
     );
 }
 
@@ -143,11 +158,11 @@ fn refuses_plan_sheets(rt: HostRuntime) {
 fn names_the_bytes_before_the_task_set(rt: HostRuntime) {
     assert_eq!(rt;
         refusal_of_both(b"T 2 1\nP 10 9\nC 5 5\nK 1\nP 0/0\nA 0/1\n"),
-        refused('S', 3, 31)
+        refused(Layer::Sheet, 3, 31)
     );
     assert_eq!(rt;
         refusal_of_both(b"T 2 1\nP 10 9\nC 5 5\nK 1\nP 0/0\nA 1/1\n"),
-        refused('G', 4, 1)
+        refused(Layer::Set, 4, 1)
     );
 }
 
@@ -167,8 +182,8 @@ fn refuses_to_write(rt: HostRuntime) {
     };
     let mut out = [7; 20];
     let short = refusal_of_writing(&[part], &mut out);
-    assert_eq!(rt; short, refused('K', 17, 22));
+    assert_eq!(rt; short, refused(Layer::Plan, 17, 22));
     let off_scale = refusal_of_writing(&[part, unreadable], &mut out);
-    assert_eq!(rt; off_scale, refused('K', 3, 1));
+    assert_eq!(rt; off_scale, refused(Layer::Plan, 3, 1));
     assert_eq!(rt; out[0], 7);
 }

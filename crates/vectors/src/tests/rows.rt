@@ -1,4 +1,5 @@
 // The rows of the table through the code: sheets in, sheets, response times, refusals and ticks out.
+use crate::tests::running::runs;
 use machine::Machine;
 use machine::fault::MachineFault;
 use parts::fault::PlanFault;
@@ -63,21 +64,6 @@ fn refuses(rt: &impl Abort, bytes: &[u8], wanted: PlanFault) {
         Err(fault) => assert_eq!(rt; Some(fault), Some(wanted)),
     }
     assert_eq!(rt; times, [7; 4]);
-}
-
-// The processor runs this task in each of the next ticks.
-fn runs(
-    rt: &impl Abort,
-    machine: &mut Machine<RateMonotonic, Spaced>,
-    ticks: u8,
-    task: u8,
-) -> Result<(), Fail> {
-    for _ in 0..ticks {
-        let mut answer = [7];
-        machine.tick(&mut answer)?;
-        assert_eq!(rt; answer, [task]);
-    }
-    Ok(())
 }
 
 #[test]

@@ -3,12 +3,8 @@ use lib.Count.{ones}
 use Rattle.machine.proofs.Telling.{word_counted}
 use Rattle.machine.proofs.Machine.ready_count.Goals as goal
 
-pub returns : goal.returns
-returns g c =
+pub returns-clause-count : goal.returns-clause-count
+returns-clause-count g c =
     let m = c.args.self.now in
-    let e = c.in_ok-word_of.ensures in
-    record {
-      known = e.known;
-      count = ap ones e.word
-          ∙ word_counted m.layout m.table c.args.processor (g.O.PriorityOrder.before m.order) (g.R.ArrivalRule.curve m.rule) (g.R.ArrivalRule.left m.rule) m.clock;
-    }
+    ap ones c.in_ok-word_of.ensures.word
+    ∙ word_counted m.dispatcher.layout m.dispatcher.table c.args.processor (g.O.PriorityOrder.before m.order) (g.R.ArrivalRule.curve m.rule) (g.R.ArrivalRule.left m.rule) m.clock

@@ -1,20 +1,19 @@
-use Rattle.std.proofs.Common.{◌<◌, sym, refl, ap, ◌∙◌, arith}
+use Rattle.std.proofs.Common.{◌<◌, List, map, take, sym, refl, ap, ◌∙◌, arith}
 use Rattle.schedule.specs.Sameness.{Same}
 use Rattle.schedule.specs.TickRule.{started}
 use Rattle.tasks.specs.Arrivals.{SameCurves}
 use Rattle.tasks.specs.Numbers.{as_numbered}
 use Rattle.tasks.specs.Sets.{count_of}
 use Rattle.parts.specs.Parts.{parts_of}
-use Rattle.machine.specs.declared.jobs.Job.TheVariants.{Closed}
-use Rattle.machine.specs.Jobs.{fits}
-use Rattle.machine.proofs.Tables.{all_same}
+use Rattle.machine.specs.declared.jobs.Job.{Job}
+use Rattle.machine.specs.Jobs.{meant}
 use Rattle.machine.specs.Meaning.{laid_system}
 use Rattle.machine.proofs.Living.{born, same_plan}
-use Rattle.machine.proofs.States.{closed_all}
+use Rattle.machine.proofs.States.{closed_all, all_closed}
 use Rattle.machine.proofs.Machine.start.Goals as goal
 
 pub invariant_of-result : goal.invariant_of-result
-invariant_of-result g c = record { whole = refl; fitting = λ i. ap (fits (parts_of c.new-layout.result.list)) (all_same 32 i Closed); early = omega arith }
+invariant_of-result g c = all_closed c.new-layout.result c.closed.result c.closed.ensures
 
 pub returns : goal.returns
 returns g c =
@@ -27,7 +26,7 @@ returns g c =
     (started (laid_system l (g.O.PriorityOrder.before c.carried-processors.result.order) (g.R.ArrivalRule.curve c.fresh.new.self))) = record {
       clock = refl;
       room = λ i L h o. let low : as_numbered i < 32 = omega arith in c.fresh.ensures.1 (as_numbered i) L low o ∙ sym (c.fresh.ensures.0 (as_numbered i) L low);
-      jobs = closed_all (parts_of l.list) (count_of l.set) 32 l.set.few;
+      jobs = ap (λ (js : List Job). map (meant (parts_of l.list)) (take (count_of l.set) js)) c.closed.ensures ∙ closed_all (parts_of l.list) (count_of l.set) 32 l.set.few;
     } in
     record {
       carried = (made.0 ∙ same.0, made.1 ∙ same.1, made.2 ∙ same.2, same.3);

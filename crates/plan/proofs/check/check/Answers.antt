@@ -1,46 +1,21 @@
-use Rattle.std.proofs.Common.{◌≡◌, ℕ, List, ◌++◌, length, take, drop, Some, Ok, Err, Option, Result, unwrap_or, sym, refl, ap, ◌∙◌, subst, arith}
-use Rattle.std.proofs.lemmas.Result.{err_from_is_err_and}
+use Rattle.std.proofs.Common.{◌≡◌, ℕ, List, ◌++◌, length, drop, Ok, Option, Result, sym, ap, ◌∙◌, subst, rules}
+use Rattle.std.proofs.lemmas.List.{length-map}
 use Rattle.schedule.specs.declared.Part.{Part}
-use Rattle.parts.specs.declared.fault.PlanFault.{PlanFault}
-use Rattle.plan.specs.Answers.{Judged, refused_or, check_fault, check_answer, ExactlyLate}
-use Rattle.plan.specs.Checks.{response_times}
+use Rattle.tasks.proofs.Orderings.{lawful_order}
+use Rattle.parts.specs.Fixed.{elements}
 use Rattle.parts.specs.Parts.{parts_of, plan_of}
-use Rattle.plan.specs.Responses.{response_within}
+use Rattle.parts.specs.declared.fault.PlanFault.{PlanFault}
+use Rattle.plan.specs.Answers.{Judged, refused_or, check_fault, check_answer}
+use Rattle.plan.specs.Checks.{response_times}
 use Rattle.plan.specs.Systems.{system}
-use Rattle.plan.proofs.Exactness.{exactly_late}
-use Rattle.parts.proofs.Listing.{listed_length}
-use Rattle.plan.proofs.Writing.{front_is_map}
-use Rattle.tasks.specs.Orders.{LawfulOrder}
-use Rattle.plan.proofs.check.check.Given as given
+use Rattle.plan.proofs.Exactness.{exact_answer}
+use Rattle.plan.proofs.Judging.{judged_of}
 use Rattle.plan.proofs.check.check.Goals as goal
 
-order_law : (g : given.Over) (o : g.row.O.Denot) → LawfulOrder (g.O.PriorityOrder.before o)
-order_law g o = record {
-  irreflexive = g.met.O.PriorityOrder.irreflexive o;
-  connected = g.met.O.PriorityOrder.connected o;
-  asymmetric = g.met.O.PriorityOrder.asymmetric o;
-  transitive = g.met.O.PriorityOrder.transitive o;
-}
-
-pub returns-in_err-times : goal.returns-in_err-times
-returns-in_err-times g c =
-    let p = err_from_is_err_and c.from_residual.result c.from_residual.ensures.1 in
-    let fault = c.in_err-times.field-0.0 in
-    let before = g.O.PriorityOrder.before c.args.order in
-    let curve = g.R.ArrivalRule.curve c.args.rule in
-    let room = length c.args.responses.now in
-    let ps = plan_of c.args.proposal in
-    let found : check_fault c.args.set c.args.processors ps before curve room ≡ Some fault =
-    subst (λ (l : List Part). check_fault c.args.set c.args.processors l before curve room ≡ Some fault) c.give_up-list.ensures c.in_err-times.ensures in
-    let answer : ◌≡◌ {A = Result ℕ PlanFault} (Err fault) (check_answer c.args.set c.args.processors ps before curve room) =
-    ap (λ (o : Option PlanFault). refused_or o (length ps)) (sym found) in
-    rw (p.1, p.2) (record {
-      answer = answer;
-      times = refl;
-      held = refl;
-      exact = subst (ExactlyLate c.args.set c.args.processors ps before curve) (sym answer)
-          (exactly_late c.args.set c.args.processors ps before curve (order_law g c.args.order) (g.met.R.ArrivalRule.curves c.args.rule) room);
-    })
+pub returns-in_err-times-clause-exact : goal.returns-in_err-times-clause-exact
+returns-in_err-times-clause-exact g c =
+    exact_answer c.args.set c.args.processors (plan_of c.args.proposal) (g.O.PriorityOrder.before c.args.order) (g.R.ArrivalRule.curve c.args.rule)
+    (lawful_order g.met.O.PriorityOrder c.args.order) (g.met.R.ArrivalRule.curves c.args.rule) (length c.args.responses.now) c.from_residual-in_err-times.result (search rules)
 
 pub returns : goal.returns
 returns g c =
@@ -48,18 +23,18 @@ returns g c =
     let curve = g.R.ArrivalRule.curve c.args.rule in
     let room = length c.args.responses.now in
     let ps = plan_of c.args.proposal in
-    let same : parts_of c.give_up-list.result ≡ ps = c.give_up-list.ensures in
     let sys = system c.args.set c.args.processors ps before curve in
-    let judged = subst (λ (l : List Part). Judged (check_fault c.args.set c.args.processors l before curve room) (system c.args.set c.args.processors l before curve) l (Ok c.in_ok-times.times)) same c.in_ok-times.ensures in
-    let counted : c.len-count.result ≡ length ps = c.len-count.ensures ∙ ap length same in
+    let same : parts_of c.give_up-list.result ≡ ps = c.give_up-list.ensures in
+    let judged = subst (λ (l : List Part). Judged (check_fault c.args.set c.args.processors l before curve room) (system c.args.set c.args.processors l before curve) l (Ok c.in_ok-times.times)) same
+    (judged_of g.O.PriorityOrder.before g.R.ArrivalRule.curve c.in_ok-new.field-0 room (Ok c.in_ok-times.times) c.in_ok-new.ensures c.in_ok-times.ensures) in
+    let listed : elements c.in_ok-times.times ≡ response_times sys ps = judged.1.1 in
+    let front : c.copy_from_slice.new.self ≡ response_times sys ps = c.copy_from_slice.ensures.after ∙ c.as_slice.ensures ∙ listed in
+    let counted : c.len-count.result ≡ length ps = c.len-count.ensures ∙ ap length listed ∙ length-map ps _ in
     let answer : ◌≡◌ {A = Result ℕ PlanFault} (Ok c.len-count.result) (check_answer c.args.set c.args.processors ps before curve room) =
     ap (λ (n : ℕ). Ok n) counted ∙ ap (λ (o : Option PlanFault). refused_or o (length ps)) (sym judged.0) in
-    let front : take (length ps) c.in_ok-times.times ≡ response_times sys ps =
-    front_is_map (λ q. unwrap_or (response_within sys q q.window) 0) ps c.in_ok-times.times (omega (arith, judged.1.1, listed_length c.give_up-list.result, ap length same, c.give_up-list.result.few)) judged.1.2 in
     record {
       answer = answer;
-      times = c.write_times.ensures ∙ ap (λ (n : ℕ). take n c.in_ok-times.times ++ drop n c.args.responses.now) counted ∙ ap (λ (l : List ℕ). l ++ drop (length ps) c.args.responses.now) front;
-      held = (refl, refl, same, refl, refl);
-      exact = subst (ExactlyLate c.args.set c.args.processors ps before curve) (sym answer)
-          (exactly_late c.args.set c.args.processors ps before curve (order_law g c.args.order) (g.met.R.ArrivalRule.curves c.args.rule) room);
+      times = ap (λ (l : List ℕ). l ++ drop c.len-count.result c.args.responses.now) front ∙ ap (λ (n : ℕ). response_times sys ps ++ drop n c.args.responses.now) counted;
+      held = search rules;
+      exact = exact_answer c.args.set c.args.processors ps before curve (lawful_order g.met.O.PriorityOrder c.args.order) (g.met.R.ArrivalRule.curves c.args.rule) room (Ok c.len-count.result) answer;
     }

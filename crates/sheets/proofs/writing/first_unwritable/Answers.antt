@@ -1,11 +1,12 @@
-use Rattle.std.proofs.Common.{not, sym, ap, ◌∙◌, arith}
-use Rattle.tasks.proofs.Searches.{first_found, first_none}
-use Rattle.sheets.specs.Texts.{unwritable}
+use Rattle.std.proofs.Common.{not, ◌∙◌, rules}
+use Rattle.std.proofs.lemmas.Iterator.{YieldsList-from_slice}
+use Rattle.std.proofs.lemmas.Iterator.Search.{position_from_yields_List}
+use borrow.Author.Tests.{tests}
+use Rattle.sheets.specs.Texts.{writable}
+use Rattle.sheets.proofs.Texts.{first_unwritable_at}
 use Rattle.sheets.proofs.writing.first_unwritable.Goals as goal
 
-pub returns-then-not-is_writable : goal.returns-then-not-is_writable
-returns-then-not-is_writable c =
-    first_found (unwritable c.args.parts.now) _ _ c.loop-i-test.true c.loop-i.invariant (ap not (sym c.is_writable.ensures ∙ c.if-not-is_writable.true))
-
 pub returns : goal.returns
-returns c = first_none (unwritable c.args.parts.now) _ (λ k h. c.loop-i.invariant k (omega arith))
+returns c =
+    position_from_yields_List (λ p. not (writable p)) _ _ c.position.result c.position.ensures.ran (YieldsList-from_slice c.args.parts.now cc) (λ x b q k. search (rules, tests))
+    ∙ first_unwritable_at c.args.parts.now

@@ -8,7 +8,7 @@ use Rattle.spa2.specs.Placing.{tasks_of, parts_placed}
 use Rattle.spa2.specs.Plans.{system_of}
 use Rattle.spa2.proofs.Laws.Proposed.{lawful_plan, made_lawful}
 use Rattle.spa2.proofs.Laws.Spans.{response_most}
-use Rattle.front.proofs.Memory.{taken_few}
+use Rattle.parts.proofs.Listing.{listed_length}
 use Rattle.spa2.proofs.Starts.{parts_some, windowed_length, proposed_answer, spa2_done, refused_alike}
 use Rattle.spa2.proofs.planning.plan.Goals as goal
 
@@ -28,7 +28,7 @@ returns g c =
     let long = windowed_length t (response_within (system_of t m before curve ps)) ps _ qs (sym c.in_ok-with_windows.ensures) in
     let given = sym c.in_ok-with_windows.ensures in
     let most : 1 ≤ length qs = omega (arith, some, long) in
-    let answer = proposed_answer qs c.new.result most (omega (arith, taken_few list.parts list.count, list.few)) c.new.ensures in
+    let answer = proposed_answer qs c.new.result most (omega (arith, listed_length list, list.few)) c.new.ensures in
     let sys = system_of t m before curve ps in
     let same = answer ∙ sym (spa2_done t m before curve ps qs counted.1 counted.2 placed given) in
     record {

@@ -9,7 +9,8 @@ use Rattle.spa2.proofs.windows.with_windows.Given as goal
 -- What is left to do, with the windows so far, comes to the whole.
 abbrev pub invariant-loop-number : goal.invariant-loop-number
 invariant-loop-number g l =
-    (windowed_from (tasks_of l.set) (response_within (system l.set 0 (parts_of l.parts) (g.O.PriorityOrder.before l.order) (g.R.ArrivalRule.curve l.rule)))
-    (parts_of l.done) (drop l.number (parts_of l.parts))
-    ≡ windowed (tasks_of l.set) (response_within (system l.set 0 (parts_of l.parts) (g.O.PriorityOrder.before l.order) (g.R.ArrivalRule.curve l.rule))) (parts_of l.parts))
-    × (length (parts_of l.done) ≡ l.number)
+    let respond = response_within (system l.set 0 (parts_of l.parts) (g.O.PriorityOrder.before l.order) (g.R.ArrivalRule.curve l.rule)) in
+    record {
+      same : windowed_from (tasks_of l.set) respond (parts_of l.done) (drop l.number (parts_of l.parts)) ≡ windowed (tasks_of l.set) respond (parts_of l.parts);
+      so_far : length (parts_of l.done) ≡ l.number;
+    }

@@ -9,7 +9,6 @@ use Rattle.machine.specs.declared.jobs.Event.{Event}
 use Rattle.machine.specs.declared.jobs.Event.TheVariants.{Release, Tick}
 use Rattle.machine.specs.declared.jobs.Job.{Job}
 use Rattle.machine.specs.declared.jobs.Job.TheVariants.{Waiting, Ready}
-use Rattle.machine.specs.declared.layout.Layout.{Layout}
 use Rattle.machine.specs.Jobs.{meant, fits, in_time, may, after_event}
 use Rattle.machine.specs.Placing.{begin_at, end_at, segment_at, later_at, from_part}
 use Rattle.machine.proofs.Placing.{segments_first, later_next}
@@ -47,15 +46,6 @@ begun-requires-in-Waiting-Tick c =
     let w = waits (parts_of l.list) c.args.job c.in-Waiting-Tick.age c.in-Waiting-Tick.part c.in-Waiting-Tick.is-0 c.requires.fitting in
     Ageing.in_time_some (parts_of l.list) (c.in-Waiting-Tick.age + 1) c.in-Waiting-Tick.part w.0 (omega (arith, w.1, Ageing.part_wide l c.in-Waiting-Tick.part w.0))
 
--- An age that is before the end of a part can grow.
-older : (l : Layout) (job : Job) (age left part : ℕ) → job ≡ Ready age left part → fits (parts_of l.list) job ≡ true → age + 1 ≤ 6500000
-older l job age left part e f =
-    let r = runs (parts_of l.list) job age left part e f in
-    omega (arith, r.2, Ageing.part_early l part r.0)
-
-pub overflow_add-older : goal.overflow_add-older
-overflow_add-older c = omega (arith, older c.args.layout.now c.args.job c.in-Ready-Tick.age c.in-Ready-Tick.left c.in-Ready-Tick.part c.in-Ready-Tick.is-0 c.requires.fitting)
-
 pub begun-requires-then-older-end : goal.begun-requires-then-older-end
 begun-requires-then-older-end c =
     let l = c.args.layout.now in
@@ -65,34 +55,28 @@ begun-requires-then-older-end c =
     let r = runs ps c.args.job age c.in-Ready-Tick.left part c.in-Ready-Tick.is-0 c.requires.fitting in
     subst (λ (o : Option ℕ). in_time ps (age + 1) o ≡ true) (sym (Ageing.held l part r.0).next) (Ageing.next_in_time l age part r.0 r.2)
 
-pub returns-in_default-Release : goal.returns-in_default-Release
-returns-in_default-Release c =
+pub returns-in_default-Release-clause-meaning : goal.returns-in_default-Release-clause-meaning
+returns-in_default-Release-clause-meaning c =
     let l = c.args.layout.now in
     let ps = parts_of l.list in
-    record {
-      meaning = c.begun.ensures.meaning ∙ ap (λ (o : Option ℕ). hand_over 0 (from_part ps o)) (l.firsts c.args.task c.requires.known)
-          ∙ ap (hand_over 0) (sym (segments_first ps c.args.task)) ∙ sym (at_hand ps c.args.task c.args.event Release c.args.job c.args.job c.in_default-Release.is-1 refl);
-      fitting = c.begun.ensures.fitting;
-    }
+    c.begun.ensures.meaning ∙ ap (λ (o : Option ℕ). hand_over 0 (from_part ps o)) (l.firsts c.args.task c.requires.known)
+    ∙ ap (hand_over 0) (sym (segments_first ps c.args.task)) ∙ sym (at_hand ps c.args.task c.args.event Release c.args.job c.args.job c.in_default-Release.is-1 refl)
 
-pub returns-in-Waiting-Tick : goal.returns-in-Waiting-Tick
-returns-in-Waiting-Tick c =
+pub returns-in-Waiting-Tick-clause-meaning : goal.returns-in-Waiting-Tick-clause-meaning
+returns-in-Waiting-Tick-clause-meaning c =
     let l = c.args.layout.now in
     let ps = parts_of l.list in
     let age = c.in-Waiting-Tick.age in
     let part = c.in-Waiting-Tick.part in
     let w = waits ps c.args.job age part c.in-Waiting-Tick.is-0 c.requires.fitting in
     let still = idle c.args.job c.args.event age part c.in-Waiting-Tick.ran-1 c.in-Waiting-Tick.is-0 c.in-Waiting-Tick.is-1 c.requires.may in
-    record {
-      meaning = c.begun-in-Waiting-Tick.ensures.meaning
-          ∙ sym (Ageing.aged_waiting age (part_at ps part).cost (segment_at ps part) (later_at ps part) (Ageing.part_works l part w.0) (omega (arith, w.1, Ageing.part_wide l part w.0)))
-          ∙ ap (λ (b : Bool). aged b (open_at age (part_at ps part).cost (segment_at ps part) (later_at ps part))) (sym still)
-          ∙ sym (at_hand ps c.args.task c.args.event (Tick c.in-Waiting-Tick.ran-1) c.args.job (Waiting age part) c.in-Waiting-Tick.is-1 c.in-Waiting-Tick.is-0);
-      fitting = c.begun-in-Waiting-Tick.ensures.fitting;
-    }
+    c.begun-in-Waiting-Tick.ensures.meaning
+    ∙ sym (Ageing.aged_waiting age (part_at ps part).cost (segment_at ps part) (later_at ps part) (Ageing.part_works l part w.0) (omega (arith, w.1, Ageing.part_wide l part w.0)))
+    ∙ ap (λ (b : Bool). aged b (open_at age (part_at ps part).cost (segment_at ps part) (later_at ps part))) (sym still)
+    ∙ sym (at_hand ps c.args.task c.args.event (Tick c.in-Waiting-Tick.ran-1) c.args.job (Waiting age part) c.in-Waiting-Tick.is-1 c.in-Waiting-Tick.is-0)
 
-pub returns-then-older-end : goal.returns-then-older-end
-returns-then-older-end c =
+pub returns-then-older-end-clause-meaning : goal.returns-then-older-end-clause-meaning
+returns-then-older-end-clause-meaning c =
     let l = c.args.layout.now in
     let ps = parts_of l.list in
     let age = c.in-Ready-Tick.age in
@@ -106,34 +90,8 @@ returns-then-older-end c =
       | else-ran w ↦ Ageing.rest_idle ran left c.if-ran.rest w.if-ran.false w.rest-is
     ] in
     let over : (left - one_if ran ≡ 0) ⊎ (age + 1 ≡ end_at ps part) = elim c.if-older-end.either [ inl e ↦ inl (sym rest ∙ e) | inr e ↦ inr (e.1 ∙ d.end) ] in
-    record {
-      meaning = c.begun-then-older-end.ensures.meaning
-          ∙ ap (λ (o : Option ℕ). hand_over (age + 1) (from_part ps o)) d.next
-          ∙ ap (hand_over (age + 1)) (sym (later_next ps part r.0))
-          ∙ sym (Ageing.aged_over ran age left (segment_at ps part) (later_at ps part) over)
-          ∙ sym (at_hand ps c.args.task c.args.event (Tick ran) c.args.job (Ready age left part) c.in-Ready-Tick.is-1 c.in-Ready-Tick.is-0);
-      fitting = c.begun-then-older-end.ensures.fitting;
-    }
-
-pub returns-else-older-end : goal.returns-else-older-end
-returns-else-older-end c =
-    let l = c.args.layout.now in
-    let ps = parts_of l.list in
-    let age = c.in-Ready-Tick.age in
-    let left = c.in-Ready-Tick.left in
-    let part = c.in-Ready-Tick.part in
-    let ran = c.in-Ready-Tick.ran in
-    let r = runs ps c.args.job age left part c.in-Ready-Tick.is-0 c.requires.fitting in
-    let d = Ageing.held l part r.0 in
-    let rest : c.if-ran.rest ≡ left - one_if ran = elim c.if-ran.branch [
-      | then-ran w ↦ Ageing.rest_ran ran left c.if-ran.rest w.if-ran.true w.rest-is
-      | else-ran w ↦ Ageing.rest_idle ran left c.if-ran.rest w.if-ran.false w.rest-is
-    ] in
-    let some : left - one_if ran ≡ 0 → ⊥ = λ e. c.if-older-end.false.0 (rest ∙ e) in
-    let early : age + 1 ≡ end_at ps part → ⊥ = λ e. c.if-older-end.false.1 (e ∙ sym d.end) in
-    record {
-      meaning = ap (λ (n : ℕ). open_at (age + 1) n (segment_at ps part) (later_at ps part)) rest
-          ∙ sym (Ageing.aged_on ran age left (segment_at ps part) (later_at ps part) some early)
-          ∙ sym (at_hand ps c.args.task c.args.event (Tick ran) c.args.job (Ready age left part) c.in-Ready-Tick.is-1 c.in-Ready-Tick.is-0);
-      fitting = Ageing.fits_ready ps (age + 1) c.if-ran.rest part r.0 (omega (arith, r.1)) (omega (arith, r.2, early)) (omega (arith, rest, some));
-    }
+    c.begun-then-older-end.ensures.meaning
+    ∙ ap (λ (o : Option ℕ). hand_over (age + 1) (from_part ps o)) d.next
+    ∙ ap (hand_over (age + 1)) (sym (later_next ps part r.0))
+    ∙ sym (Ageing.aged_over ran age left (segment_at ps part) (later_at ps part) over)
+    ∙ sym (at_hand ps c.args.task c.args.event (Tick ran) c.args.job (Ready age left part) c.in-Ready-Tick.is-1 c.in-Ready-Tick.is-0)

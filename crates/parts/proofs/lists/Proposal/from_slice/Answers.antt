@@ -1,4 +1,4 @@
-use Rattle.std.proofs.Common.{◌≡◌, true, not, List, is_ok, ap, ◌∙◌, subst}
+use Rattle.std.proofs.Common.{◌≡◌, true, List, is_ok, rules, ◌∙◌, subst}
 use Rattle.std.proofs.lemmas.List.{take_more, take_all}
 use Rattle.schedule.specs.declared.Part.{Part}
 use Rattle.parts.specs.Parts.{Proposed}
@@ -6,7 +6,7 @@ use Rattle.parts.proofs.lists.Proposal.from_slice.Goals as goal
 
 pub loop-part-preserved : goal.loop-part-preserved
 loop-part-preserved c =
-    let ok : is_ok c.push.result ≡ true = c.is_err.ensures.negation ∙ ap not c.if-is_err.false in
+    let ok : is_ok c.push.result ≡ true = search (rules, c.in_ok-map_err.ensures.variant) in
     let unused : Part = record { task = 0; processor = 0; cost = 0; window = 0 } in
     let more = take_more c.args.parts.now c.loop-part.part-index unused c.loop-part-test.true in
     let kept = c.loop-part.invariant in

@@ -1,9 +1,9 @@
-use Rattle.std.proofs.Common.{◌≡◌, ◌+◌, ◌-◌, ◌<◌, ◌≤◌, length, sym, ap, ◌∙◌, subst, arith}
+use Rattle.std.proofs.Common.{◌≡◌, ◌+◌, ◌-◌, ◌<◌, length, sym, ap, ◌∙◌, subst, arith}
 use Rattle.tasks.specs.Sets.{count_of}
-use Rattle.spa2.specs.Placing.{State, tasks_of, visited_from}
+use Rattle.spa2.specs.Placing.{State, Visiting, tasks_of, visited_from}
 use Rattle.spa2.specs.Seen.{seen}
 use Rattle.spa2.proofs.Steps.{visits_more, visits_none}
-use Rattle.spa2.proofs.Visits.{Visiting, visited_visiting, visits_length}
+use Rattle.spa2.proofs.Visits.{visited_visiting, visits_length}
 use Rattle.spa2.proofs.Weights.{opens_few}
 use Rattle.spa2.proofs.state.Planner.visit_all.Goals as goal
 
@@ -17,17 +17,16 @@ loop-task-preserved c =
       subst (λ (z : State). Visiting z (i + 1)) (sym c.visit.ensures) (visited_visiting t s i c.loop-task.invariant.1),
     )
 
-pub returns : goal.returns
-returns c =
+pub returns-clause-enough : goal.returns-clause-enough
+returns-clause-enough c =
     let t = tasks_of c.args.set.now in
     let s = seen c.loop-task.self in
-    let i = c.loop-task.task in
     let v = c.loop-task.invariant.1 in
-    let here : i ≤ 32 = omega (arith, c.args.set.now.few) in
-    let after : s ≡ visited_from t (seen c.args.self.now) 0 (count_of c.args.set.now) = sym (visits_none t s i (omega arith)) ∙ c.loop-task.invariant.0 in
+    let after : s ≡ visited_from t (seen c.args.self.now) 0 (count_of c.args.set.now) = sym (visits_none t s c.loop-task.task (omega arith)) ∙ c.loop-task.invariant.0 in
     let many = ap (λ (z : State). length z.processors) after ∙ visits_length t (seen c.args.self.now) 0 (count_of c.args.set.now) in
-    record {
-      after = after;
-      enough = omega (arith, v.each, opens_few s.processors, many, c.loop-task.auto.task-end);
-      light = omega (arith, v.listed, v.seated, v.each, opens_few s.processors, c.loop-task.self.few, here);
-    }
+    omega (arith, v.each, opens_few s.processors, many, c.loop-task.auto.task-end)
+
+pub returns-clause-light : goal.returns-clause-light
+returns-clause-light c =
+    let v = c.loop-task.invariant.1 in
+    omega (arith, v.listed, v.seated, v.each, opens_few c.loop-task.self.processors.now, c.loop-task.self.few, c.args.set.now.few)

@@ -1,8 +1,7 @@
 use Rattle.std.proofs.Common.{◌≡◌, ◌-◌}
 use Rattle.tasks.specs.Sets.{count_of}
-use Rattle.spa2.specs.Placing.{tasks_of, visited_from}
+use Rattle.spa2.specs.Placing.{tasks_of, visited_from, Visiting}
 use Rattle.spa2.specs.Seen.{seen}
-use Rattle.spa2.proofs.Visits.{Visiting}
 use Rattle.spa2.proofs.state.Planner.visit_all.Given as goal
 
 -- The tasks still to be visited lead to the same state, and each task visited so far is in reserve or a piece.
