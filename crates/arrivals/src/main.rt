@@ -45,6 +45,7 @@ fn spaced_pairs() -> Result<Both<Spaced, Paired>, SetFault> {
 fn show_releases<R: ArrivalRule, P: Print>(rt: &P, rule: &mut R) -> io::Result<()> {
     let mut now = 0;
     for tick in ASKED {
+        // the ticks in between pass, one call each
         for _ in now..tick {
             rule.advance();
         }

@@ -4,7 +4,8 @@ use schedule::Part;
 use sheets::TaskSheet;
 use spa2::load::task_load;
 use spa2::theta::theta;
-use std::io;
+use std::{fmt, io};
+use tasks::set::Task;
 
 // What is said of a sheet, and whom it is said to.
 #[derive(Clone, Copy)]
@@ -14,9 +15,16 @@ pub struct Report<'a> {
     sheet: &'a TaskSheet,
 }
 
-// A load of so many millionths of a processor, in percent with four places.
-fn percent(millionths: u64) -> (u64, u64) {
-    (millionths / 10_000, millionths % 10_000)
+// A load of so many millionths of a processor, written in percent with four places.
+#[derive(Clone, Copy)]
+struct Percent(u64);
+
+impl fmt::Display for Percent {
+    fn fmt<W: fmt::Write>(&self, f: &mut fmt::Formatter<W>) -> fmt::Result {
+        let whole = self.0 / 10_000;
+        let part = self.0 % 10_000;
+        write!(f, "{whole}.{part:04} %")
+    }
 }
 
 impl<'a> Report<'a> {
@@ -29,18 +37,12 @@ impl<'a> Report<'a> {
         let Report { rt, names, sheet } = self;
         let count = sheet.set.count();
         let processors = sheet.processors;
-        let (whole, part) = percent(theta(count));
-        println!(rt;
-            "{count} tasks on {processors} processors, each filled up to {whole}.{part:04} %"
-        )?;
-        for task in 0..count {
+        let full = Percent(theta(count));
+        println!(rt; "{count} tasks on {processors} processors, each filled up to {full}")?;
+        for (task, Task { period, cost }) in sheet.set.tasks().iter().enumerate() {
             let name = names.of(task);
-            let period = sheet.set.period(task);
-            let cost = sheet.set.cost(task);
-            let (whole, part) = percent(task_load(&sheet.set, task));
-            println!(rt;
-                "task {task} {name}: {cost} ticks every {period}, load {whole}.{part:04} %"
-            )?;
+            let load = Percent(task_load(&sheet.set, task));
+            println!(rt; "task {task} {name}: {cost} ticks every {period}, load {load}")?;
         }
         Ok(())
     }
@@ -48,6 +50,7 @@ impl<'a> Report<'a> {
     // Which processor got which part.
     pub fn processors(self, parts: &[Part]) -> io::Result<()> {
         let Report { rt, names, sheet } = self;
+        // over numbers: processors are no more than that
         for processor in 0..sheet.processors {
             println!(rt; "processor {processor}")?;
             for part in parts
@@ -66,6 +69,7 @@ impl<'a> Report<'a> {
     // The life of each task that was cut: cost and window of each part, and from which tick to which after its release it may run.
     pub fn cut_tasks(self, parts: &[Part]) -> io::Result<()> {
         let Report { rt, names, sheet } = self;
+        // over numbers: the parts name their tasks by them
         for task in 0..sheet.set.count() {
             let count = parts
                 .iter()

@@ -13,12 +13,13 @@ use tasks::rate_monotonic::RateMonotonic;
 // How many ticks are shown.
 const TICKS: usize = 100;
 
-// The letters of the tasks.
-const LETTERS: &str = "0123456789ABCDEFGHIJKLMNOPQRSTUV";
+// The letters of the tasks are the 32 digits 0 to 9 and A to V.
+const LETTERS: u32 = 32;
 
 // In each tick a release of every task, most of them too soon, and the tick.
 fn calls(heap: Global, tasks: usize, processors: usize) -> Result<Vec<Call>, AllocError> {
     let mut calls = Vec::new(heap);
+    // loops over ticks and over task numbers: a call holds the number, and a push may fail
     for _ in 0..TICKS {
         for task in 0..tasks {
             calls.push(Call::Release { task })?;
@@ -32,8 +33,8 @@ fn calls(heap: Global, tasks: usize, processors: usize) -> Result<Vec<Call>, All
 fn column(bytes: &[u8; 8], processor: usize) -> char {
     bytes
         .get(processor)
-        .and_then(|task| LETTERS.chars().nth(usize::from(*task)))
-        .unwrap_or('.')
+        .and_then(|task| char::from_digit(u32::from(*task), LETTERS))
+        .map_or('.', |letter| letter.to_ascii_uppercase())
 }
 
 // One line for each processor, a column for each tick.
@@ -41,6 +42,7 @@ fn print_strip(rt: &HostRuntime, outcomes: &[Outcome], processors: usize) -> io:
     println!(rt;
         "the first {TICKS} ticks, a column each, with every task released as often as it may be"
     )?;
+    // over numbers: the bytes of a tick go by them
     for processor in 0..processors {
         print!(rt; "processor {processor} ")?;
         for outcome in outcomes {

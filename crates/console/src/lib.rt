@@ -17,6 +17,7 @@ pub fn read_input<'a>(rt: &HostRuntime, buffer: &'a mut [u8]) -> io::Result<&'a 
     let size = buffer.len();
     let mut filled = 0;
     let mut input = rt.stdin();
+    // a while: how much one read brings is not known before it
     while filled < size {
         let got = input.read(&mut buffer[filled..size])?;
         if got == 0 {

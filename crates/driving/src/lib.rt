@@ -12,8 +12,9 @@ pub enum Call {
     Tick { room: usize },
 }
 
-// What a call did that was not refused. The bytes of a tick past the plan's processors are 255.
-#[derive(Clone, Copy)]
+// What a call did that was not refused: of a tick the buffer that it was lent, whole, since each outcome has one fixed length. The bytes
+// past the plan's processors are 255, as a tick leaves them.
+#[derive(Clone, Copy, PartialEq, Eq, Debug)]
 pub enum Done {
     Taken,
     Ran { bytes: [u8; 8] },

@@ -6,7 +6,7 @@ ghost use Rattle.tasks.specs.Arrivals.{SameCurves};
 ghost use Rattle.parts.specs.Parts.{plan_of, parts_of};
 ghost use Rattle.plan.specs.Systems.{system};
 ghost use Rattle.driving.specs.Driving.{Promised, call_of, fault_in};
-ghost use Rattle.machine.specs.Meaning.{state_of, Ranked};
+ghost use Rattle.machine.specs.Meaning.{set_of, processors_of, list_of, state_of, Ranked};
 
 use crate::runs::run;
 use crate::{Call, Outcome, Undriven};
@@ -34,7 +34,7 @@ pub fn drive<O: PriorityOrder + Drop, R: ArrivalRule + Drop>(
     outcomes: &mut [Outcome],
 ) -> Result<Machine<O, R>, Undriven<O, R>>
     ensures promise { Promised set processors (plan_of proposal) (O.before order) (R.curve rule) calls.now responses.old responses.new outcomes.old outcomes.new (fault_in result) }
-    ensures machine { MatchResult result (λ m. Ranked m O.before × (m.dispatcher.layout.set ≡ set) × (m.dispatcher.layout.processors ≡ processors) × (parts_of m.dispatcher.layout.list ≡ plan_of proposal) × (m.order ≡ order) × SameCurves (R.curve rule) (R.curve m.rule) × Same (system set processors (plan_of proposal) (O.before order) (R.curve rule)) (state_of m R.left) (state_after (system set processors (plan_of proposal) (O.before order) (R.curve rule)) (started (system set processors (plan_of proposal) (O.before order) (R.curve rule))) (map call_of calls.now))) (λ u. u.place ≡ place) }
+    ensures machine { MatchResult result (λ m. Ranked m O.before × (set_of m ≡ set) × (processors_of m ≡ processors) × (parts_of (list_of m) ≡ plan_of proposal) × (m.order ≡ order) × SameCurves (R.curve rule) (R.curve m.rule) × Same (system set processors (plan_of proposal) (O.before order) (R.curve rule)) (state_of m R.left) (state_after (system set processors (plan_of proposal) (O.before order) (R.curve rule)) (started (system set processors (plan_of proposal) (O.before order) (R.curve rule))) (map call_of calls.now))) (λ u. u.place ≡ place) }
 {
     let needed = calls.len();
     if outcomes.len() < needed {

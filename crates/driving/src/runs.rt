@@ -4,7 +4,7 @@ ghost use Rattle.std.specs.Prelude.{◌≡◌, ℕ, ◌<◌, ◌≤◌, List, ma
 ghost use Rattle.schedule.specs.TickRule.{history, state_after};
 ghost use Rattle.schedule.specs.Sameness.{Same};
 ghost use Rattle.driving.specs.Driving.{call_of, outcome_meant, recorded};
-ghost use Rattle.machine.specs.Meaning.{system_of, state_of, ByMachine, Ranked, Obeys, GoesOn};
+ghost use Rattle.machine.specs.Meaning.{processors_of, system_of, state_of, ByMachine, Ranked, Obeys, GoesOn};
 ghost use Rattle.driving.specs.declared.Done.TheVariants.{Taken};
 
 use crate::{Call, Done, Outcome};
@@ -16,7 +16,7 @@ use tasks::order::PriorityOrder;
 // Makes one call. A tick is lent as much of a buffer as the call has room for, which no plan needs longer than 8 bytes.
 fn make_call<O: PriorityOrder, R: ArrivalRule>(machine: &mut Machine<O, R>, call: Call) -> Outcome
     requires { Ranked machine.old O.before }
-    ensures obeyed { Obeys machine.old machine.new O.before R.curve R.left (call_of call) (outcome_meant machine.old.dispatcher.layout.processors result) }
+    ensures obeyed { Obeys machine.old machine.new O.before R.curve R.left (call_of call) (outcome_meant (processors_of machine.old) result) }
     ensures same { GoesOn machine.old machine.new R.curve }
     ensures own { ByMachine result }
 {
@@ -39,7 +39,7 @@ pub(crate) fn run<O: PriorityOrder, R: ArrivalRule>(
 )
     requires ranked { Ranked machine.old O.before }
     requires room { length calls.now ≤ length outcomes.old }
-    ensures told { recorded machine.old.dispatcher.layout.processors calls.now outcomes.new ≡ history (system_of machine.old O.before R.curve) (state_of machine.old R.left) (map call_of calls.now) }
+    ensures told { recorded (processors_of machine.old) calls.now outcomes.new ≡ history (system_of machine.old O.before R.curve) (state_of machine.old R.left) (map call_of calls.now) }
     ensures state { Same (system_of machine.old O.before R.curve) (state_of machine.new R.left) (state_after (system_of machine.old O.before R.curve) (state_of machine.old R.left) (map call_of calls.now)) }
     ensures same { GoesOn machine.old machine.new R.curve }
     ensures own { (k : ℕ) → k < length calls.now → ByMachine (slice_index_or outcomes.new k (Ok Taken)) }

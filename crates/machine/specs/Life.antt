@@ -8,7 +8,7 @@ use Rattle.tasks.specs.declared.order.TaskKey.{TaskKey}
 use Rattle.plan.specs.Checks.{verdict}
 use Rattle.parts.specs.Parts.{parts_of}
 use Rattle.machine.specs.declared.Machine.{Machine}
-use Rattle.machine.specs.Meaning.{system_of, state_of, Ranked}
+use Rattle.machine.specs.Meaning.{set_of, processors_of, list_of, system_of, state_of, Ranked}
 
 -- Some calls from a start have this history, and leave this state.
 abbrev pub Lived : System → State → History → Type 0
@@ -21,7 +21,7 @@ Lives m before curve left h = Ranked m before × Lived (system_of m before curve
 -- The check accepts the plan that the machine runs.
 abbrev pub Accepted : {O R : Type 0} → Machine O R → (O → TaskKey → TaskKey → Bool) → (R → ℕ → ℕ → ℕ) → Type 0
 Accepted m before curve =
-    verdict m.dispatcher.layout.set m.dispatcher.layout.processors (parts_of m.dispatcher.layout.list) (before m.order) (curve m.rule) ≡ None
+    verdict (set_of m) (processors_of m) (parts_of (list_of m)) (before m.order) (curve m.rule) ≡ None
 
 -- A call goes on with the life of a machine: whatever it had lived, it has lived that and the call with its answer, and if its plan is
 -- accepted, then that history and each of its beginnings keep the promise.

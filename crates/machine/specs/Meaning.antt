@@ -7,7 +7,8 @@ use Rattle.tasks.specs.Arrivals.{SameCurves}
 use Rattle.tasks.specs.Numbers.{as_numbered}
 use Rattle.tasks.specs.Sets.{count_of}
 use Rattle.tasks.specs.declared.order.TaskKey.{TaskKey}
-use Rattle.parts.specs.Parts.{parts_of}
+use Rattle.tasks.specs.declared.set.TaskSet.{TaskSet}
+use Rattle.parts.specs.Parts.{PartList, parts_of}
 use Rattle.plan.specs.Systems.{system}
 use Rattle.machine.specs.declared.fault.MachineFault.{MachineFault}
 use Rattle.machine.specs.declared.jobs.JobTable.{JobTable}
@@ -17,6 +18,16 @@ use Rattle.machine.specs.Faults.{shown}
 use Rattle.machine.specs.Jobs.{meant}
 use Rattle.machine.specs.Layouts.{ByOrder}
 use Rattle.sheet.specs.declared.fault.Layer.TheVariants as Layers
+
+-- How many processors the plan of a machine has, its task set, and the list of its parts.
+abbrev pub processors_of : {O R : Type 0} → Machine O R → ℕ
+processors_of m = m.dispatcher.layout.processors
+
+abbrev pub set_of : {O R : Type 0} → Machine O R → TaskSet
+set_of m = m.dispatcher.layout.set
+
+abbrev pub list_of : {O R : Type 0} → Machine O R → PartList
+list_of m = m.dispatcher.layout.list
 
 -- The system of a layout under an order's relation and a rule's curves.
 abbrev pub laid_system : Layout → (TaskKey → TaskKey → Bool) → (ℕ → ℕ → ℕ) → System

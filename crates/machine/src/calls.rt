@@ -1,4 +1,5 @@
-// The calls of a machine.
+// The calls of a machine. What a call keeps, what it leaves where it is refused, and that a refusal is the machine's own are clauses of
+// each call: they relate its two ends, so that no type of a machine could hold them.
 ghost use Rattle.std.specs.Prelude.{◌≡◌, true, false, [], length, take, drop, is_ok, None};
 ghost use Rattle.schedule.specs.TickRule.{started};
 ghost use Rattle.schedule.specs.TickRule as rules;
@@ -7,7 +8,7 @@ ghost use Rattle.tasks.specs.Arrivals.{SameCurves};
 ghost use Rattle.plan.specs.Checks.{verdict};
 ghost use Rattle.parts.specs.Parts.{parts_of};
 ghost use Rattle.machine.specs.Life.{Lives, Accepted, LifeGoesOn};
-ghost use Rattle.machine.specs.Meaning.{system_of, state_of, answer_of, ByMachine, Ranked, Obeys, GoesOn};
+ghost use Rattle.machine.specs.Meaning.{processors_of, set_of, list_of, system_of, state_of, answer_of, ByMachine, Ranked, Obeys, GoesOn};
 
 use crate::Machine;
 use crate::dispatcher::Dispatcher;
@@ -24,7 +25,7 @@ const LAST_CLOCK: u64 = 1_099_511_627_776;
 impl<O: PriorityOrder, R: ArrivalRule> Machine<O, R> {
     // Starts a machine from a plan that has passed the check: the rule fresh, the clock at 0 and no job open.
     pub fn start(plan: CheckedPlan<O, R>) -> Machine<O, R>
-        ensures carried { (result.dispatcher.layout.set ≡ plan.set) × (result.dispatcher.layout.processors ≡ plan.processors) × (result.dispatcher.layout.list ≡ plan.list) × (result.order ≡ plan.order) }
+        ensures carried { (set_of result ≡ plan.set) × (processors_of result ≡ plan.processors) × (list_of result ≡ plan.list) × (result.order ≡ plan.order) }
         ensures curves { SameCurves (R.curve plan.rule) (R.curve result.rule) }
         ensures ranked { Ranked result O.before }
         ensures state { Same (system_of result O.before R.curve) (state_of result R.left) (started (system_of result O.before R.curve)) }
@@ -78,7 +79,7 @@ impl<O: PriorityOrder, R: ArrivalRule> Machine<O, R> {
         if !self.rule.is_open(task) {
             return Err(MachineFault::TooSoon { task });
         }
-        let _ = self.rule.admit(task);
+        self.rule.admit(task).unwrap();
         self.dispatcher.happen(task, Event::Release);
         Ok(())
     }
@@ -104,12 +105,12 @@ impl<O: PriorityOrder, R: ArrivalRule> Machine<O, R> {
     // One tick: each processor runs, of the jobs that are ready there, the one of lowest rank; then every open job grows older. The
     // first bytes of the answer say what each processor runs, 255 for nothing; the bytes after them stay.
     pub fn tick(&mut self, answer: &mut [u8]) -> Result<(), MachineFault>
-        ensures obeyed { Ranked self.old O.before → Obeys self.old self.new O.before R.curve R.left (rules.tick (length answer.old)) (answer_of result (rules.ran (take self.old.dispatcher.layout.processors answer.new))) }
+        ensures obeyed { Ranked self.old O.before → Obeys self.old self.new O.before R.curve R.left (rules.tick (length answer.old)) (answer_of result (rules.ran (take (processors_of self.old) answer.new))) }
         ensures own { ByMachine result }
         ensures same { GoesOn self.old self.new R.curve }
-        ensures rest { drop self.old.dispatcher.layout.processors answer.new ≡ drop self.old.dispatcher.layout.processors answer.old }
+        ensures rest { drop (processors_of self.old) answer.new ≡ drop (processors_of self.old) answer.old }
         ensures refused { is_ok result ≡ false → (self.new ≡ self.old) × (answer.new ≡ answer.old) }
-        ensures life { LifeGoesOn self.old self.new O.before R.curve R.left (rules.tick (length answer.old)) (answer_of result (rules.ran (take self.old.dispatcher.layout.processors answer.new))) }
+        ensures life { LifeGoesOn self.old self.new O.before R.curve R.left (rules.tick (length answer.old)) (answer_of result (rules.ran (take (processors_of self.old) answer.new))) }
     {
         if self.clock >= LAST_CLOCK {
             return Err(MachineFault::WornOut);
@@ -130,7 +131,7 @@ impl<O: PriorityOrder, R: ArrivalRule> Machine<O, R> {
 impl<O, R> Machine<O, R> {
     // Stops the machine, and hands back what its plan carried.
     pub fn stop(self) -> Carried<O, R>
-        ensures { (result.set ≡ self.dispatcher.layout.set) × (result.processors ≡ self.dispatcher.layout.processors) × (result.list ≡ self.dispatcher.layout.list) × (result.order ≡ self.order) × (result.rule ≡ self.rule) }
+        ensures { (result.set ≡ set_of self) × (result.processors ≡ processors_of self) × (result.list ≡ list_of self) × (result.order ≡ self.order) × (result.rule ≡ self.rule) }
     {
         let Machine {
             dispatcher: Dispatcher { layout, .. },

@@ -25,6 +25,7 @@ pub enum MachineFault {
     Cramped { needed: usize },
 }
 
+// By hand, since a derived From promises nothing of what it makes.
 impl From<PlanFault> for MachineFault {
     ghost from_gives = { λ p r. r ≡ Plan p };
 
@@ -34,7 +35,7 @@ impl From<PlanFault> for MachineFault {
 }
 
 impl MachineFault {
-    // Layer, number and place of the fault. The place is widened by `as`: there is no From into u64 for a usize.
+    // Layer, number and place of the fault.
     pub fn refusal(&self) -> Refusal
         ensures { result ≡ shown self.now }
     {
@@ -46,11 +47,7 @@ impl MachineFault {
             MachineFault::WornOut => (16, 0),
             MachineFault::Cramped { needed } => (17, needed),
         };
-        Refusal {
-            layer: Layer::Machine,
-            number,
-            place: place as u64,
-        }
+        Refusal::new(Layer::Machine, number, place)
     }
 }
 

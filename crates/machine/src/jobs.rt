@@ -2,7 +2,7 @@
 ghost use Rattle.std.specs.Prelude.{◌≡◌, replicate};
 
 // A job in one of its three states. Ages are counted in ticks from the release.
-#[derive(Clone, Copy)]
+#[derive(Clone, Copy, PartialEq, Eq, Debug)]
 pub enum Job {
     // no job is open
     Closed,
@@ -13,7 +13,7 @@ pub enum Job {
 }
 
 // What happens to a job.
-#[derive(Clone, Copy)]
+#[derive(Clone, Copy, PartialEq, Eq, Debug)]
 pub enum Event {
     Release,
     Finish,

@@ -10,7 +10,8 @@ use tasks::set::TaskSet;
 
 // What a machine reads at each tick, made once at the start: where each part stands in time, the first part of each task, the
 // rank of each task and the task of each rank. `first` and `ranks` both go by the task's number, and yet are no array of structs:
-// each is made by a pass of its own, and no call reads both. `by_rank` goes by rank, and holds bytes, as a tick answers them.
+// each is made by a pass of its own, and no call reads both. `by_rank` goes by rank, and holds bytes, as a tick answers them. `placed`
+// goes with `list`, which is kept as it came, to be handed back.
 #[derive(Clone, Copy)]
 pub struct Layout {
     pub(crate) set: TaskSet,

@@ -33,6 +33,7 @@ pub enum PlanFault {
     Cramped { needed: usize },
 }
 
+// By hand, since a derived From or Display promises nothing of what it makes or writes.
 impl From<SetFault> for PlanFault {
     ghost from_gives = { λ s r. r ≡ Set s };
 
@@ -42,7 +43,7 @@ impl From<SetFault> for PlanFault {
 }
 
 impl PlanFault {
-    // Layer, number and place of the fault. The place is widened by `as`: there is no From into u64 for a usize.
+    // Layer, number and place of the fault.
     pub fn refusal(&self) -> Refusal
         ensures { result ≡ shown self.now }
     {
@@ -58,11 +59,7 @@ impl PlanFault {
             PlanFault::Squeezed { part } => (12, part),
             PlanFault::Cramped { needed } => (17, needed),
         };
-        Refusal {
-            layer: Layer::Plan,
-            number,
-            place: place as u64,
-        }
+        Refusal::new(Layer::Plan, number, place)
     }
 }
 

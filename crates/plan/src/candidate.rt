@@ -6,7 +6,8 @@ ghost use Rattle.plan.specs.Checks.{numbers_pass};
 use parts::lists::PartList;
 use tasks::set::TaskSet;
 
-// A plan whose numbers have passed, with all that it is judged under.
+// A plan whose numbers have passed, with all that it is judged under. (It borrows what `Carried` owns: no struct holds set,
+// processors and list for both, since callers read those fields of `Carried`.)
 #[derive(Drop)]
 pub(crate) struct Candidate<'a, O, R> {
     set: &'a TaskSet,

@@ -4,14 +4,15 @@ ghost use Rattle.plan.specs.Answers.{check_fault, check_answer, check_buffer, Ex
 ghost use Rattle.parts.specs.Parts.{parts_of, plan_of};
 
 use crate::candidate::Candidate;
-use crate::checked::{Carried, CheckedPlan};
+use crate::checked::CheckedPlan;
 use parts::fault::PlanFault;
 use parts::lists::Proposal;
 use tasks::arrival::ArrivalRule;
 use tasks::order::PriorityOrder;
 use tasks::set::TaskSet;
 
-// What the check would refuse a plan for, where there is room for so many response times; none where it would accept it.
+// What the check would refuse a plan for, where there is room for so many response times; none where it would accept it. No Result: a
+// fault is what is asked for, and nothing has failed.
 pub fn fault_of<O: PriorityOrder, R: ArrivalRule>(
     set: &TaskSet,
     processors: usize,
@@ -30,7 +31,8 @@ pub fn fault_of<O: PriorityOrder, R: ArrivalRule>(
 
 // Checks a plan for the tasks of a set on `processors` processors, under a priority order and an arrival rule. Accepted, the response
 // times of its parts stand in the first entries of `responses`, `place` holds the plan with all that it was checked under, and the
-// answer is how many parts it has. Refused, both are as they were. The proposal is used up either way.
+// answer is how many parts it has. Refused, both are as they were. The proposal is used up either way. Place and buffer are the caller's, as the
+// rules have it: no memory is made here.
 pub fn check<O: PriorityOrder + Drop, R: ArrivalRule + Drop>(
     set: TaskSet,
     processors: usize,
@@ -50,13 +52,11 @@ pub fn check<O: PriorityOrder + Drop, R: ArrivalRule + Drop>(
     let count = times.len();
     responses[..count].copy_from_slice(times.as_slice());
     *place = CheckedPlan {
-        carried: Carried {
-            set,
-            processors,
-            list,
-            order,
-            rule,
-        },
+        set,
+        processors,
+        list,
+        order,
+        rule,
     };
     Ok(count)
 }

@@ -1,8 +1,9 @@
 // The checks of a plan's numbers, which ask neither the order nor the rule.
-ghost use Rattle.std.specs.Prelude.{◌≡◌, ◌*◌, ◌<◌, ◌≤◌, length};
+ghost use Rattle.std.specs.Prelude.{◌≡◌, ◌<◌, ◌≤◌, ◌&&◌, false, length, nat_le, MatchResult};
 ghost use Rattle.schedule.specs.Layout.{span_of, work_of};
 ghost use Rattle.tasks.specs.Searches.{first_where};
 ghost use Rattle.tasks.specs.Sets.{count_of};
+ghost use Rattle.tasks.specs.declared.fault.SetFault.TheVariants as Sets;
 ghost use Rattle.plan.specs.Answers.{refused_or};
 ghost use Rattle.plan.specs.Checks.{off_scale, stranger, twin, miscount, number_fault};
 ghost use Rattle.parts.specs.Parts.{parts_of};
@@ -56,7 +57,8 @@ fn first_stranger(set: &TaskSet, processors: usize, parts: &[Part]) -> Option<us
     })
 }
 
-// Whether an earlier part is of the task of the part at `index` and on its processor.
+// Whether an earlier part is of the task of the part at `index` and on its processor. (It takes the list and the place, as `twin`
+// in its contract does.)
 fn is_twin(parts: &[Part], index: usize) -> bool
     requires { index < length parts.now }
     ensures { result ≡ twin parts.now index }
@@ -81,6 +83,16 @@ fn first_miscount(set: &TaskSet, list: &PartList) -> Option<usize>
     (0..set.count()).find(|task| sums(list, *task).cost != u64::from(set.cost(*task)))
 }
 
+// Refuses a count of processors outside 1 to 8.
+pub fn check_processors(processors: usize) -> Result<(), SetFault>
+    ensures { MatchResult result (λ _. (1 ≤ processors) × (processors ≤ 8)) (λ e. ((nat_le 1 processors && nat_le processors 8) ≡ false) × (e ≡ Sets.OffScale 0)) }
+{
+    if !(1..=MAX_PROCESSORS).contains(&processors) {
+        return Err(SetFault::OffScale { task: 0 });
+    }
+    Ok(())
+}
+
 // What is wrong with the numbers of a plan, the first check that finds something first.
 pub(crate) fn check_numbers(
     set: &TaskSet,
@@ -89,9 +101,7 @@ pub(crate) fn check_numbers(
 ) -> Result<(), PlanFault>
     ensures { result ≡ refused_or (number_fault set.now processors (parts_of list.now)) tt }
 {
-    if processors == 0 || processors > MAX_PROCESSORS {
-        return Err(PlanFault::from(SetFault::OffScale { task: 0 }));
-    }
+    check_processors(processors)?;
     let parts = list.as_slice();
     if parts.is_empty() {
         return Err(PlanFault::OffScale { part: 0 });

@@ -17,7 +17,8 @@ use tasks::rate_monotonic::RateMonotonic;
 // More bytes than the longest plan sheet has.
 const ROOM: usize = 2048;
 
-// The plan of the tasks on the sheet, under rate-monotonic order and spaced arrivals.
+// The plan of the tasks on the sheet, under rate-monotonic order and spaced arrivals. The program `bench` plans its sheet likewise and keeps
+// it: a function for both would need a crate of its own, and a contract that repeats those of the two calls.
 fn plan_of_sheet(bytes: &[u8]) -> Result<Proposal, PlanFault> {
     let sheet = read_task_sheet(bytes)?;
     plan(

@@ -26,7 +26,7 @@ pub trait Regulator {
     fn is_open(&self) -> bool
         ensures { result ≡ (left self.now 1 == 1) };
 
-    // Admits a release in this tick, or refuses it and changes nothing.
+    // Admits a release in this tick, or refuses it and changes nothing. Each refuses by itself: a regulator is not bound to be asked first.
     fn take(&mut self) -> Result<(), TooSoon>
         ensures answer { is_ok result ≡ not (left self.old 1 == 0) }
         ensures curve_stays { SameCurve (curve self.old) (curve self.new) }

@@ -4,7 +4,7 @@ ghost use Rattle.schedule.specs.Promise.{Sound, Exact};
 ghost use Rattle.schedule.specs.Examples.{Worked};
 
 // A part of a plan: the task that it is cut from, the processor that it runs on, the ticks that it runs, and the ticks that it may take for them.
-#[derive(Clone, Copy)]
+#[derive(Clone, Copy, PartialEq, Eq, Debug)]
 pub struct Part {
     pub task: u8,
     pub processor: u8,

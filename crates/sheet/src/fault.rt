@@ -23,6 +23,19 @@ pub struct Refusal {
     pub place: u64,
 }
 
+impl Refusal {
+    // The refusal of a layer with this number and place. The place is widened by `as`: there is no From into u64 for a usize.
+    pub fn new(layer: Layer, number: u8, place: usize) -> Refusal
+        ensures { result ≡ record { layer = layer; number = number; place = place } }
+    {
+        Refusal {
+            layer,
+            number,
+            place: place as u64,
+        }
+    }
+}
+
 impl fmt::Display for Layer {
     ghost output = { λ layer. Some (letter layer) };
 
@@ -60,7 +73,7 @@ pub enum SheetFault {
 }
 
 impl SheetFault {
-    // Layer, number and place of the fault. A usize is widened by `as`: there is no From into u64 for it.
+    // Layer, number and place of the fault.
     pub fn refusal(&self) -> Refusal
         ensures { result ≡ shown self.now }
     {
@@ -69,11 +82,7 @@ impl SheetFault {
             SheetFault::Misspelt { at } => (2, at),
             SheetFault::OffScale { at } => (3, at),
         };
-        Refusal {
-            layer: Layer::Sheet,
-            number,
-            place: place as u64,
-        }
+        Refusal::new(Layer::Sheet, number, place)
     }
 }
 

@@ -1,6 +1,6 @@
 // What a byte is to a number.
 
-// The least and the most that a number may be.
+// The least and the most that a number may be. Not the library's range, which can't be copied.
 #[derive(Clone, Copy)]
 pub struct Limits {
     pub least: u32,

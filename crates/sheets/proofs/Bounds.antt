@@ -7,13 +7,12 @@ use Rattle.sheet.specs.declared.symbol.Stop.TheVariants.{Slash}
 use Rattle.sheet.specs.Reading.{Read, got, expected, number}
 use Rattle.sheet.proofs.Scale.{next_both, number_within}
 use Rattle.sheets.specs.declared.lines.Pair.{Pair}
-use Rattle.sheets.specs.declared.lines.PairLimits.{PairLimits}
 use Rattle.sheets.specs.Grammar.{limits, ticks, items, numbers, pair_within, pairs, none, next_stop, line_of_numbers, line_of_pairs}
 
 abbrev pub Within : Limits → ℕ → Type 0
 Within l v = (l.least ≤ v) × (v ≤ l.most)
 
-abbrev pub PairWithin : PairLimits → Pair → Type 0
+abbrev pub PairWithin : Pair Limits → Pair ℕ → Type 0
 PairWithin w p = Within w.left p.left × Within w.right p.right
 
 -- One item for each of the limits, which it fits.
@@ -26,7 +25,7 @@ FitAll fits (w ∷ ws) (v ∷ vs) = fits w v × FitAll fits ws vs
 abbrev pub Fit : List Limits → List ℕ → Type 0
 Fit = FitAll Within
 
-abbrev pub FitPairs : Limits → Limits → ℕ → List Pair → Type 0
+abbrev pub FitPairs : Limits → Limits → ℕ → List (Pair ℕ) → Type 0
 FitPairs l r n = FitAll PairWithin (replicate n (record { left = l; right = r }))
 
 -- Items that are read fit, where each does.
@@ -53,7 +52,7 @@ fit_length fits (w ∷ ws) (v ∷ vs) h = ap suc (fit_length fits ws vs h.1)
 pub numbers_fit : (ls : List Limits) (at : ℕ) (xs : List ℕ) (vs : List ℕ) (at' : ℕ) (xs' : List ℕ) → numbers ls at xs ≡ got vs at' xs' → Fit ls vs
 numbers_fit = items_fit number Within number_within
 
-pair_fits : (w : PairLimits) (s : Stop) (at : ℕ) (xs : List ℕ) (p : Pair) (at' : ℕ) (xs' : List ℕ) → pair_within w s at xs ≡ got p at' xs' → PairWithin w p
+pair_fits : (w : Pair Limits) (s : Stop) (at : ℕ) (xs : List ℕ) (p : Pair ℕ) (at' : ℕ) (xs' : List ℕ) → pair_within w s at xs ≡ got p at' xs' → PairWithin w p
 pair_fits w s at xs p at' xs' h =
     let a = next_both (number w.left Slash at xs) _ p at' xs' h in
     let b = next_both (expected 47 a.1 a.2) _ p at' xs' a.4 in
@@ -61,13 +60,13 @@ pair_fits w s at xs p at' xs' h =
     let e : record { left = a.0; right = c.0 } ≡ p = cc c.4 in
     subst (PairWithin w) e (number_within w.left Slash at xs a.0 a.1 a.2 a.3, number_within w.right s b.1 b.2 c.0 c.1 c.2 c.3)
 
-pairs_fit : (l r : Limits) (n : ℕ) (at : ℕ) (xs : List ℕ) (ps : List Pair) (at' : ℕ) (xs' : List ℕ) → pairs l r n at xs ≡ got ps at' xs' → FitPairs l r n ps
+pairs_fit : (l r : Limits) (n : ℕ) (at : ℕ) (xs : List ℕ) (ps : List (Pair ℕ)) (at' : ℕ) (xs' : List ℕ) → pairs l r n at xs ≡ got ps at' xs' → FitPairs l r n ps
 pairs_fit l r n = items_fit pair_within PairWithin pair_fits (replicate n (record { left = l; right = r }))
 
-pub fit_pairs_length : (l r : Limits) (n : ℕ) (ps : List Pair) → FitPairs l r n ps → length ps ≡ n
+pub fit_pairs_length : (l r : Limits) (n : ℕ) (ps : List (Pair ℕ)) → FitPairs l r n ps → length ps ≡ n
 fit_pairs_length l r n ps h = fit_length PairWithin (replicate n (record { left = l; right = r })) ps h ∙ length-replicate n _
 
-pub fit_pairs_at : (l r : Limits) (n : ℕ) (ps : List Pair) → FitPairs l r n ps → (i : ℕ) → i < n → PairWithin (record { left = l; right = r }) (get_or ps i none)
+pub fit_pairs_at : (l r : Limits) (n : ℕ) (ps : List (Pair ℕ)) → FitPairs l r n ps → (i : ℕ) → i < n → PairWithin (record { left = l; right = r }) (get_or ps i none)
 fit_pairs_at l r zero ps h i k = absurd (omega (arith, k))
 fit_pairs_at l r (suc n) [] h i k = absurd h
 fit_pairs_at l r (suc n) (p ∷ ps) h zero k = h.0
@@ -99,12 +98,12 @@ part_count n at xs a at' xs' h =
     let f = part_count_fits n at xs a at' xs' h in
     (first_fits (limits 1 64) [] a f, fit_length Within (limits 1 64 ∷ []) a f)
 
-pub places_fit : (n at : ℕ) (xs : List ℕ) (ps : List Pair) (at' : ℕ) (xs' : List ℕ) → line_of_pairs 80 n at xs ≡ got ps at' xs' → FitPairs (limits 0 31) (limits 0 7) n ps
+pub places_fit : (n at : ℕ) (xs : List ℕ) (ps : List (Pair ℕ)) (at' : ℕ) (xs' : List ℕ) → line_of_pairs 80 n at xs ≡ got ps at' xs' → FitPairs (limits 0 31) (limits 0 7) n ps
 places_fit n at xs ps at' xs' h =
     let p = next_both (expected 80 at xs) _ ps at' xs' h in
     pairs_fit (limits 0 31) (limits 0 7) n p.1 p.2 ps at' xs' p.4
 
-pub amounts_fit : (n at : ℕ) (xs : List ℕ) (ps : List Pair) (at' : ℕ) (xs' : List ℕ) → line_of_pairs 65 n at xs ≡ got ps at' xs' → FitPairs ticks ticks n ps
+pub amounts_fit : (n at : ℕ) (xs : List ℕ) (ps : List (Pair ℕ)) (at' : ℕ) (xs' : List ℕ) → line_of_pairs 65 n at xs ≡ got ps at' xs' → FitPairs ticks ticks n ps
 amounts_fit n at xs ps at' xs' h =
     let p = next_both (expected 65 at xs) _ ps at' xs' h in
     pairs_fit ticks ticks n p.1 p.2 ps at' xs' p.4

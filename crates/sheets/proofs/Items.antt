@@ -6,7 +6,6 @@ use Rattle.sheet.specs.Reading.{Read, got, next, expected}
 use Rattle.schedule.specs.declared.Part.{Part}
 use Rattle.sheets.specs.Texts.{no_part}
 use Rattle.sheets.specs.declared.lines.Pair.{Pair}
-use Rattle.sheets.specs.declared.lines.PairLimits.{PairLimits}
 use Rattle.sheets.specs.Grammar.{ticks, items, pair_within, pairs, numbers, line_of_numbers, line_of_pairs, assembled, part_of, none}
 
 -- A reading whose first step gives x.
@@ -30,17 +29,17 @@ ticks_line count letter at xs at' xs' R few which k n =
     (λ k. next_got (expected 80 at xs) _ tt at' xs' k ∙ n') k) which
 
 -- A line of pairs, past its letter.
-pub pairs_line : (count letter own at : ℕ) (xs : List ℕ) (at' : ℕ) (xs' : List ℕ) (w : PairLimits) (R : Read (List Pair))
+pub pairs_line : (count letter own at : ℕ) (xs : List ℕ) (at' : ℕ) (xs' : List ℕ) (w : Pair Limits) (R : Read (List (Pair ℕ)))
     → ((at : ℕ) (xs : List ℕ) → line_of_pairs own count at xs ≡ next (expected own at xs) (λ _ at xs. pairs w.left w.right count at xs))
     → count ≤ 64 → letter ≡ own → expected letter at xs ≡ got tt at' xs' → items pair_within (take (count - 0) (replicate 64 w)) at' xs' ≡ R
     → line_of_pairs letter count at xs ≡ R
 pairs_line count letter own at xs at' xs' w R line few e k n =
     ap (λ (z : ℕ). line_of_pairs z count at xs) e ∙ line at xs
     ∙ next_got (expected own at xs) _ tt at' xs' (ap (λ (z : ℕ). expected z at xs) (sym e) ∙ k)
-    ∙ subst (λ (ws : List PairLimits). items pair_within ws at' xs' ≡ R) (some_same count 64 w few) n
+    ∙ subst (λ (ws : List (Pair Limits)). items pair_within ws at' xs' ≡ R) (some_same count 64 w few) n
 
 -- Parts that are made of these places and amounts, one by one.
-pub assembled_each : (parts : List Part) (ps qs : List Pair) → length parts ≡ length ps → length qs ≡ length ps
+pub assembled_each : (parts : List Part) (ps qs : List (Pair ℕ)) → length parts ≡ length ps → length qs ≡ length ps
     → ((k : ℕ) → k < length parts → get_or parts k no_part ≡ part_of (get_or ps k none) (get_or qs k none)) → parts ≡ assembled ps qs
 assembled_each [] [] qs e f h = refl
 assembled_each [] (p ∷ ps) qs e f h = absurd (omega (arith, e))

@@ -23,13 +23,13 @@ use Rattle.sheets.proofs.Texts.{small, count_line_short, places_line_short, amou
 use Rattle.sheets.proofs.Whole.{plan_count, assembled_length}
 
 -- The place and the amounts of a part.
-abbrev place_of : Part → Pair
+abbrev place_of : Part → Pair ℕ
 place_of = pair_of Places
 
-abbrev amounts_of : Part → Pair
+abbrev amounts_of : Part → Pair ℕ
 amounts_of = pair_of Amounts
 
-items_map : {A : Type 0} (f : A → Pair) (g : A → List ℕ) → ((x : A) → pair_shown (f x) ≡ g x) → (xs : List A) → items_text pair_shown (map f xs) ≡ items_text g xs
+items_map : {A : Type 0} (f : A → Pair ℕ) (g : A → List ℕ) → ((x : A) → pair_shown (f x) ≡ g x) → (xs : List A) → items_text pair_shown (map f xs) ≡ items_text g xs
 items_map f g e [] = refl
 items_map f g e (x ∷ xs) = ap₂ (λ (y z : List ℕ). 32 ∷ (y ++ z)) (e x) (items_map f g e xs)
 
@@ -117,13 +117,13 @@ sheet_of_text ps s =
     cond-false (ltb 4096 (length (plan_text ps))) _ _ (le-ltb 4096 (length (plan_text ps)) h) ∙ ap closed a.1
 
 -- The parts that are read are those that were written.
-places_again : (n : ℕ) (ps qs : List Pair) → length ps ≡ n → length qs ≡ n → items_text place_text (assembled ps qs) ≡ items_text pair_shown ps
+places_again : (n : ℕ) (ps qs : List (Pair ℕ)) → length ps ≡ n → length qs ≡ n → items_text place_text (assembled ps qs) ≡ items_text pair_shown ps
 places_again n [] qs h k = refl
 places_again n (p ∷ ps) [] h k = absurd (omega (arith, h, k))
 places_again zero (p ∷ ps) (q ∷ qs) h k = absurd (omega (arith, h))
 places_again (suc n) (p ∷ ps) (q ∷ qs) h k = ap (λ (z : List ℕ). 32 ∷ (pair_shown p ++ z)) (places_again n ps qs (omega arith) (omega arith))
 
-amounts_again : (n : ℕ) (ps qs : List Pair) → length ps ≡ n → length qs ≡ n → items_text amounts_text (assembled ps qs) ≡ items_text pair_shown qs
+amounts_again : (n : ℕ) (ps qs : List (Pair ℕ)) → length ps ≡ n → length qs ≡ n → items_text amounts_text (assembled ps qs) ≡ items_text pair_shown qs
 amounts_again n [] [] h k = refl
 amounts_again n [] (q ∷ qs) h k = absurd (omega (arith, h, k))
 amounts_again n (p ∷ ps) [] h k = refl
@@ -134,7 +134,7 @@ writable_from : (p : Part) → p.task ≤ 31 → p.processor ≤ 7 → 1 ≤ p.c
 writable_from p a b c d e f =
     and_from _ _ (le-leb _ _ a) (and_from _ _ (le-leb _ _ b) (and_from _ _ (and_from _ _ (le-leb _ _ c) (le-leb _ _ d)) (and_from _ _ (le-leb _ _ e) (le-leb _ _ f))))
 
-each_writable : (n : ℕ) (ps qs : List Pair) → FitPairs (limits 0 31) (limits 0 7) n ps → FitPairs ticks ticks n qs
+each_writable : (n : ℕ) (ps qs : List (Pair ℕ)) → FitPairs (limits 0 31) (limits 0 7) n ps → FitPairs ticks ticks n qs
     → (i : ℕ) → i < length (assembled ps qs) → writable (get_or (assembled ps qs) i no_part) ≡ true
 each_writable n [] qs f g i h = absurd (omega (arith, h))
 each_writable n (p ∷ ps) [] f g i h = absurd (omega (arith, h))

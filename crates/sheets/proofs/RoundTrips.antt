@@ -9,7 +9,6 @@ use Rattle.sheet.specs.Reading.{Read, got, next, expected, number, stop_byte}
 use Rattle.sheet.proofs.Numerals.{expects, expected_inv, reads_number, number_inv}
 use Rattle.sheet.proofs.Scale.{next_both}
 use Rattle.sheets.specs.declared.lines.Pair.{Pair}
-use Rattle.sheets.specs.declared.lines.PairLimits.{PairLimits}
 use Rattle.sheets.specs.Grammar.{items, numbers, pair_within, pairs, next_stop}
 use Rattle.sheets.specs.Texts.{pair_shown, items_text}
 use Rattle.sheets.proofs.Bounds.{Within, PairWithin, FitAll, Fit, FitPairs}
@@ -92,13 +91,13 @@ reads_numbers =
 pub numbers_inv : (ls : List Limits) (at : ℕ) (xs vs : List ℕ) (at' : ℕ) (xs' : List ℕ) → numbers ls at xs ≡ got vs at' xs' → xs ≡ items_text numeral vs ++ xs'
 numbers_inv = items_inv number Within Small numeral (λ l s at xs v at' xs' h. (number_inv l s at xs v at' xs' h).0)
 
-pair_apart : (p : Pair) (rest : List ℕ) → pair_shown p ++ rest ≡ numeral p.left ++ (47 ∷ (numeral p.right ++ rest))
+pair_apart : (p : Pair ℕ) (rest : List ℕ) → pair_shown p ++ rest ≡ numeral p.left ++ (47 ∷ (numeral p.right ++ rest))
 pair_apart p rest = append_assoc (numeral p.left) (47 ∷ numeral p.right) rest
 
-abbrev SmallPair : PairLimits → Type 0
+abbrev SmallPair : Pair Limits → Type 0
 SmallPair w = Small w.left × Small w.right
 
-reads_pair : (w : PairLimits) (s : Stop) (p : Pair) → PairWithin w p → SmallPair w → (at : ℕ) (rest : List ℕ)
+reads_pair : (w : Pair Limits) (s : Stop) (p : Pair ℕ) → PairWithin w p → SmallPair w → (at : ℕ) (rest : List ℕ)
     → (at' : ℕ) × (pair_within w s at (pair_shown p ++ (stop_byte s ∷ rest)) ≡ got p at' (stop_byte s ∷ rest))
 reads_pair w s p f x at rest =
     let a = reads_number w.left Slash p.left at (numeral p.right ++ (stop_byte s ∷ rest)) (omega (arith, f.0.1, x.0)) f.0.0 f.0.1 in
@@ -112,7 +111,7 @@ reads_pair w s p f x at rest =
           ∙ next_got (number w.right s (a.0 + 1) (numeral p.right ++ (stop_byte s ∷ rest))) (λ w at xs. got (record { left = p.left; right = w }) at xs) p.right b.0 (stop_byte s ∷ rest) b.1,
     )
 
-pair_inv : (w : PairLimits) (s : Stop) (at : ℕ) (xs : List ℕ) (p : Pair) (at' : ℕ) (xs' : List ℕ) → pair_within w s at xs ≡ got p at' xs' → xs ≡ pair_shown p ++ xs'
+pair_inv : (w : Pair Limits) (s : Stop) (at : ℕ) (xs : List ℕ) (p : Pair ℕ) (at' : ℕ) (xs' : List ℕ) → pair_within w s at xs ≡ got p at' xs' → xs ≡ pair_shown p ++ xs'
 pair_inv w s at xs p at' xs' h =
     let a = next_both (number w.left Slash at xs) _ p at' xs' h in
     let b = next_both (expected 47 a.1 a.2) _ p at' xs' a.4 in
@@ -122,14 +121,14 @@ pair_inv w s at xs p at' xs' h =
     let n = number_inv w.left Slash at xs a.0 a.1 a.2 a.3 in
     let m = number_inv w.right s b.1 b.2 c.0 c.1 c.2 c.3 in
     n.0 ∙ ap (λ (z : List ℕ). numeral a.0 ++ z) (expected_inv 47 a.1 a.2 b.0 b.1 b.2 b.3 ∙ ap (λ (z : List ℕ). 47 ∷ z) (m.0 ∙ ap (λ (z : List ℕ). numeral c.0 ++ z) f))
-    ∙ sym (pair_apart (record { left = a.0; right = c.0 }) xs') ∙ ap (λ (q : Pair). pair_shown q ++ xs') e
+    ∙ sym (pair_apart (record { left = a.0; right = c.0 }) xs') ∙ ap (λ (q : Pair ℕ). pair_shown q ++ xs') e
 
 -- The same of pairs.
-pub reads_pairs : (l r : Limits) → l.most < 1000000 → r.most < 1000000 → (n : ℕ) (ps : List Pair) → FitPairs l r n ps → (at : ℕ) (rest : List ℕ)
+pub reads_pairs : (l r : Limits) → l.most < 1000000 → r.most < 1000000 → (n : ℕ) (ps : List (Pair ℕ)) → FitPairs l r n ps → (at : ℕ) (rest : List ℕ)
     → (at' : ℕ) × (pairs l r n at (items_text pair_shown ps ++ rest) ≡ got ps at' rest)
 reads_pairs l r x y n ps f =
     reads_items pair_within PairWithin SmallPair pair_shown reads_pair (replicate n (record { left = l; right = r })) ps f
     (each_same SmallPair n (record { left = l; right = r }) (x, y))
 
-pub pairs_inv : (l r : Limits) (n at : ℕ) (xs : List ℕ) (ps : List Pair) (at' : ℕ) (xs' : List ℕ) → pairs l r n at xs ≡ got ps at' xs' → xs ≡ items_text pair_shown ps ++ xs'
+pub pairs_inv : (l r : Limits) (n at : ℕ) (xs : List ℕ) (ps : List (Pair ℕ)) (at' : ℕ) (xs' : List ℕ) → pairs l r n at xs ≡ got ps at' xs' → xs ≡ items_text pair_shown ps ++ xs'
 pairs_inv l r n = items_inv pair_within PairWithin SmallPair pair_shown pair_inv (replicate n (record { left = l; right = r }))

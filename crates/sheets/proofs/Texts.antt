@@ -1,6 +1,7 @@
 -- A text that grows, and how long it gets.
-use Rattle.std.proofs.Common.{◌≡◌, ℕ, zero, suc, ◌+◌, ◌*◌, ◌<◌, ◌≤◌, true, Bool, not, cond, leb, List, [], ◌∷◌, ◌++◌, length, get_or, take, decimal, Some, Option, sym, refl, ap, ap₂, ◌∙◌, arith}
+use Rattle.std.proofs.Common.{◌≡◌, ℕ, zero, suc, ◌+◌, ◌*◌, ◌/◌, ◌%◌, ◌^◌, ◌<◌, ◌≤◌, true, Bool, not, cond, leb, List, [], ◌∷◌, ◌++◌, length, get_or, take, decimal, Some, Option, sym, refl, ap, ap₂, ◌∙◌, arith}
 use Rattle.std.proofs.lemmas.List.{length-append, append_assoc, append-nil, take_all}
+use Rattle.std.proofs.lemmas.Fmt.{decimal_digit, decimal_step}
 use Rattle.std.specs.List.{position, position_from}
 use Rattle.std.proofs.lemmas.Iterator.Adapters.{position_from-zero}
 use Rattle.tasks.specs.Searches.{first_from, first_where}
@@ -17,6 +18,19 @@ use Rattle.tasks.specs.Sets.{on_scale}
 pub grown : (new old more : List ℕ) → new ≡ old ++ more → length new ≡ length old + length more
 grown new old more e = ap length e ∙ length-append old more
 
+-- A text with a number more: the digits before its last, and the last.
+pub decimal_one : (n : ℕ) → n < 10 → length (decimal n) ≡ 1
+decimal_one n h = ap length (decimal_digit n h)
+
+pub decimal_longer : (n : ℕ) → 10 ≤ n → n < 2 ^ 64 → length (decimal n) ≡ length (decimal (n / 10)) + 1
+decimal_longer n h k = ap length (decimal_step n h k) ∙ length-append (decimal (n / 10)) ((48 + n % 10) ∷ [])
+
+pub by_digits : (t₀ t₁ t₂ : List ℕ) (n : ℕ) → 10 ≤ n → n < 2 ^ 64 → t₁ ≡ t₀ ++ decimal (n / 10) → t₂ ≡ t₁ ++ ((48 + n % 10) ∷ []) → t₂ ≡ t₀ ++ decimal n
+by_digits t₀ t₁ t₂ n h k e₁ e₂ = rw (e₂, e₁, decimal_step n h k) (simp append_assoc)
+
+pub by_digit : (t₀ t₁ t₂ : List ℕ) (n : ℕ) → n < 10 → t₁ ≡ t₀ → t₂ ≡ t₁ ++ ((48 + n % 10) ∷ []) → t₂ ≡ t₀ ++ decimal n
+by_digit t₀ t₁ t₂ n h e₁ e₂ = let d : n % 10 ≡ n = omega arith in rw (e₂, e₁, decimal_digit n h, d) refl
+
 pub pair_length : (l r : ℕ) → length (pair_text l r) ≡ length (numeral l) + (1 + length (numeral r))
 pair_length l r = length-append (numeral l) (47 ∷ numeral r) ∙ omega arith
 
@@ -32,9 +46,9 @@ by_pair t₀ t₁ t₂ t₃ t₄ l r h k e₁ e₂ e₃ e₄ = rw (e₄, e₃, e
 pub count_printed : (n : ℕ) → n ≤ 64 → length (count_text n) ≡ 3 + length (decimal n)
 count_printed n h = omega (arith, length-append (numeral n) (10 ∷ []), ap length (numeral_decimal n (omega arith)))
 
-pub by_count : (t₀ t₁ t₂ t₃ : List ℕ) (n : ℕ) → n ≤ 64 → t₁ ≡ t₀ ++ (75 ∷ 32 ∷ []) → t₂ ≡ t₁ ++ decimal n → t₃ ≡ t₂ ++ (10 ∷ [])
-    → t₃ ≡ t₀ ++ count_text n
-by_count t₀ t₁ t₂ t₃ n h e₁ e₂ e₃ = let k : n < 1000000 = omega arith in rw (e₃, e₂, e₁, numeral_decimal n k) (simp append_assoc)
+pub by_count : (t₀ t₁ t₂ t₃ t₄ : List ℕ) (n : ℕ) → n ≤ 64 → t₁ ≡ t₀ ++ (75 ∷ []) → t₂ ≡ t₁ ++ (32 ∷ []) → t₃ ≡ t₂ ++ decimal n → t₄ ≡ t₃ ++ (10 ∷ [])
+    → t₄ ≡ t₀ ++ count_text n
+by_count t₀ t₁ t₂ t₃ t₄ n h e₁ e₂ e₃ e₄ = let k : n < 1000000 = omega arith in rw (e₄, e₃, e₂, e₁, numeral_decimal n k) (simp append_assoc)
 
 pub count_length : (n : ℕ) → n ≤ 64 → length (numeral n) ≤ 2
 count_length n h = numeral_short 2 n (omega arith) (omega arith) (omega arith)

@@ -12,8 +12,8 @@ use Rattle.sheets.specs.Grammar.{limits, ticks, none, closed, line_of_numbers, l
 use Rattle.sheets.proofs.Bounds.{first_fits, part_count_fits, places_fit, amounts_fit, fit_pairs_length, fit_pairs_at}
 
 -- Places and amounts that are read can be made into parts.
-pub assembles : (n at : ℕ) (xs : List ℕ) (p : List Pair) (at₁ : ℕ) (xs₁ : List ℕ) → line_of_pairs 80 n at xs ≡ got p at₁ xs₁
-    → (q : List Pair) (at₂ : ℕ) (xs₂ : List ℕ) → line_of_pairs 65 n at₁ xs₁ ≡ got q at₂ xs₂ → n ≤ 64
+pub assembles : (n at : ℕ) (xs : List ℕ) (p : List (Pair ℕ)) (at₁ : ℕ) (xs₁ : List ℕ) → line_of_pairs 80 n at xs ≡ got p at₁ xs₁
+    → (q : List (Pair ℕ)) (at₂ : ℕ) (xs₂ : List ℕ) → line_of_pairs 65 n at₁ xs₁ ≡ got q at₂ xs₂ → n ≤ 64
     → (length q ≡ length p) × ((length p ≤ 64)
     × ((i : ℕ) → i < length p → ((get_or p i none).left < 256) × ((get_or p i none).right < 256)))
 assembles n at xs p at₁ xs₁ P q at₂ xs₂ A h =
@@ -30,7 +30,7 @@ assembles n at xs p at₁ xs₁ P q at₂ xs₂ A h =
     )
 
 -- As many parts as places and amounts.
-pub assembled_length : (n : ℕ) (ps qs : List Pair) → length ps ≡ n → length qs ≡ n → length (assembled ps qs) ≡ n
+pub assembled_length : (n : ℕ) (ps qs : List (Pair ℕ)) → length ps ≡ n → length qs ≡ n → length (assembled ps qs) ≡ n
 assembled_length n [] qs h k = h
 assembled_length n (p ∷ ps) [] h k = k
 assembled_length zero (p ∷ ps) (q ∷ qs) h k = absurd (omega (arith, h))

@@ -8,7 +8,6 @@ use Rattle.sheet.specs.declared.symbol.Stop.{Stop}
 use Rattle.sheet.specs.declared.symbol.Stop.TheVariants.{Slash, Space, LineFeed}
 use Rattle.sheet.specs.Reading.{Read, got, bad, next, expected, number}
 use Rattle.sheets.specs.declared.lines.Pair.{Pair}
-use Rattle.sheets.specs.declared.lines.PairLimits.{PairLimits}
 
 abbrev pub limits : ℕ → ℕ → Limits
 limits least most = record { least = least; most = most }
@@ -38,18 +37,18 @@ items item (w ∷ ws) at xs =
 abbrev pub numbers : List Limits → ℕ → List ℕ → Read (List ℕ)
 numbers = items number
 
-abbrev pub none : Pair
+abbrev pub none : Pair ℕ
 none = record { left = 0; right = 0 }
 
 -- Two numbers with a slash between them, and the stop after them.
-abbrev pub pair_within : PairLimits → Stop → ℕ → List ℕ → Read Pair
+abbrev pub pair_within : Pair Limits → Stop → ℕ → List ℕ → Read (Pair ℕ)
 pair_within w stop at xs =
     next (number w.left Slash at xs) (λ v at xs.
     next (expected 47 at xs) (λ _ at xs.
     next (number w.right stop at xs) (λ w at xs. got (record { left = v; right = w }) at xs)))
 
 -- So many pairs of a line.
-abbrev pub pairs : Limits → Limits → ℕ → ℕ → List ℕ → Read (List Pair)
+abbrev pub pairs : Limits → Limits → ℕ → ℕ → List ℕ → Read (List (Pair ℕ))
 pairs left right n = items pair_within (replicate n (record { left = left; right = right }))
 
 -- The limits of the numbers on the line of a letter, where the sheet has n tasks: T has the counts of tasks and of processors,
@@ -70,7 +69,7 @@ line_of_numbers letter n at xs =
     next (expected letter at xs) (λ _ at xs. cond (of_numbers letter) (numbers (columns letter n) at xs) (bad (Misspelt at)))
 
 -- A line of n pairs: P has a task and a processor for each part, A a cost and a window. 80 and 65 are the letters' codes.
-abbrev pub line_of_pairs : ℕ → ℕ → ℕ → List ℕ → Read (List Pair)
+abbrev pub line_of_pairs : ℕ → ℕ → ℕ → List ℕ → Read (List (Pair ℕ))
 line_of_pairs letter n at xs =
     next (expected letter at xs) (λ _ at xs.
     cond (letter == 80) (pairs (limits 0 31) (limits 0 7) n at xs)
@@ -91,11 +90,11 @@ lines_of_tasks at xs =
     got (record { processors = slice_index counts 1; periods = periods; costs = costs }) at xs)))
 
 -- The part with this place, a task and a processor, and these amounts, a cost and a window.
-abbrev pub part_of : Pair → Pair → Part
+abbrev pub part_of : Pair ℕ → Pair ℕ → Part
 part_of place amounts = record { task = place.left; processor = place.right; cost = amounts.left; window = amounts.right }
 
 -- The parts that have these places and these amounts.
-abbrev pub assembled : List Pair → List Pair → List Part
+abbrev pub assembled : List (Pair ℕ) → List (Pair ℕ) → List Part
 assembled [] amounts = []
 assembled (p ∷ places) [] = []
 assembled (p ∷ places) (a ∷ amounts) = part_of p a ∷ assembled places amounts

@@ -1,6 +1,7 @@
 -- The text of a plan: what is written of it.
 use Rattle.std.specs.Prelude.{ℕ, Bool, cond, not, ◌&&◌, List, [], ◌∷◌, ◌++◌, length, drop, Some, None, Ok, Err, Option, Result, nat_le, nat_lt, slice_index_or}
 use Rattle.tasks.specs.Searches.{first_where}
+use Rattle.parts.specs.Fixed.{elements}
 use Rattle.parts.specs.declared.fault.PlanFault.{PlanFault}
 use Rattle.parts.specs.declared.fault.PlanFault.TheVariants.{OffScale, Cramped}
 use Rattle.sheet.specs.Numerals.{numeral}
@@ -13,17 +14,17 @@ use Rattle.sheets.specs.Grammar.{Tasks}
 use Rattle.tasks.specs.Sets.{on_scale}
 
 abbrev pub text_of : Text → List ℕ
-text_of t = t.written.bytes
+text_of t = elements t.written
 
 -- Two numbers with a slash between them.
 abbrev pub pair_text : ℕ → ℕ → List ℕ
 pair_text left right = numeral left ++ (47 ∷ numeral right)
 
-abbrev pub pair_shown : Pair → List ℕ
+abbrev pub pair_shown : Pair ℕ → List ℕ
 pair_shown p = pair_text p.left p.right
 
 -- What a line has for a part: where it runs, its task and its processor, or how long, its cost and its window.
-abbrev pub pair_of : Line → Part → Pair
+abbrev pub pair_of : Line → Part → Pair ℕ
 pair_of Places p = record { left = p.task; right = p.processor }
 pair_of Amounts p = record { left = p.cost; right = p.window }
 

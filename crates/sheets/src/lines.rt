@@ -1,18 +1,10 @@
 // The lines of a sheet.
-use sheet::symbol::Limits;
 
-// Two numbers with a slash between them.
+// Two of a kind with a slash between them: numbers, or the limits of both.
 #[derive(Clone, Copy, Default)]
-pub struct Pair {
-    pub left: u32,
-    pub right: u32,
-}
-
-// The limits of the two numbers.
-#[derive(Clone, Copy)]
-pub struct PairLimits {
-    pub left: Limits,
-    pub right: Limits,
+pub struct Pair<T> {
+    pub left: T,
+    pub right: T,
 }
 
 pub mod items;

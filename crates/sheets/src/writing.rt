@@ -18,6 +18,7 @@ use tasks::set::methods::is_on_scale;
 fn is_writable(part: &Part) -> bool
     ensures { result ≡ writable part.now }
 {
+    // the readers' limits again, as numbers: the test that `Limits` has is not public in `sheet`
     part.task <= 31 && part.processor <= 7 && is_on_scale(part.cost) && is_on_scale(part.window)
 }
 

@@ -1,11 +1,10 @@
 -- The plan of a task set on m processors under a priority order and an arrival rule.
-use Rattle.std.specs.Prelude.{◌≡◌, ℕ, ◌≤◌, Bool, false, cond, ◌&&◌, List, Some, None, Ok, Err, Option, Result, nat_le}
+use Rattle.std.specs.Prelude.{ℕ, Bool, cond, ◌&&◌, List, Some, None, Ok, Err, Option, Result, nat_le}
 use Rattle.schedule.specs.declared.Part.{Part}
 use Rattle.schedule.specs.Layout.{System}
 use Rattle.tasks.specs.Numbers.{as_numbered}
 use Rattle.tasks.specs.Orders.{as_asked}
 use Rattle.tasks.specs.Sets.{key_of}
-use Rattle.tasks.specs.declared.fault.SetFault.{SetFault}
 use Rattle.tasks.specs.declared.fault.SetFault.TheVariants.{OffScale}
 use Rattle.tasks.specs.declared.order.TaskKey.{TaskKey}
 use Rattle.tasks.specs.declared.set.TaskSet.{TaskSet}
@@ -50,11 +49,6 @@ listed_parts (Err e) = Err e
 abbrev pub answered : Result Proposal PlanFault → Result (List Part) PlanFault
 answered (Ok p) = Ok (plan_of p)
 answered (Err e) = Err e
-
--- What comes of a count of processors: that count, where it is 1 to 8, else a count off its limits.
-abbrev pub Counted : ℕ → Result ℕ SetFault → Type 0
-Counted m (Ok k) = (k ≡ m) × (1 ≤ m) × (m ≤ 8)
-Counted m (Err e) = ((nat_le 1 m && nat_le m 8) ≡ false) × (e ≡ OffScale 0)
 
 -- A refusal by layer, number and place; none where there are parts.
 abbrev pub refusal_of : Result (List Part) PlanFault → Option Refusal

@@ -6,7 +6,7 @@ ghost use Rattle.spa2.specs.Placing.{load_at, tasks_of, threshold};
 use crate::theta::theta;
 use tasks::set::TaskSet;
 
-// A whole processor.
+// A whole processor. (Loads and thresholds stay bare numbers, bounded in each contract: `task_load` and `theta` are public.)
 pub const WHOLE: u64 = 1_000_000;
 
 // The load of a cost in every period, rounded up.
@@ -32,7 +32,7 @@ pub(crate) fn cut_cost(load: u64, theta: u64, period: u32) -> u32
     requires { theta ≤ 1000000 }
     ensures { result ≡ cut_of theta load period }
 {
-    // `as`: a part of a period is proved to fit; a TryFrom would bring an error that cannot come
+    // `as`: a part of a period is proved to fit, and plainer than a TryFrom that is unwrapped
     (theta.saturating_sub(load) * u64::from(period) / WHOLE) as u32
 }
 

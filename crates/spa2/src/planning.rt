@@ -3,7 +3,7 @@ ghost use Rattle.std.specs.Prelude.{◌≡◌, ◌≤◌, IfOk, IfErr, Some};
 ghost use Rattle.parts.specs.Faults.{shown};
 ghost use Rattle.parts.specs.Parts.{plan_of};
 ghost use Rattle.spa2.specs.Laws.{Lawful};
-ghost use Rattle.spa2.specs.Plans.{plan_for, answered, refusal_of, listed_parts, Counted};
+ghost use Rattle.spa2.specs.Plans.{plan_for, answered, refusal_of, listed_parts};
 ghost use Rattle.spa2.specs.Placing.{tasks_of, parts_placed};
 
 use crate::piece::Piece;
@@ -13,8 +13,8 @@ use parts::fault::PlanFault;
 // callers have always named the limit by this path
 pub use parts::lists::MAX_PROCESSORS;
 use parts::lists::{PartList, Proposal};
+use plan::numbers::check_processors;
 use tasks::arrival::ArrivalRule;
-use tasks::fault::SetFault;
 use tasks::order::PriorityOrder;
 use tasks::set::{MAX_TASKS, TaskSet};
 
@@ -35,16 +35,6 @@ fn placed_parts(set: &TaskSet, count: usize) -> Result<PartList, PlanFault>
     Ok(planner.parts())
 }
 
-// The count of processors, which is 1 to 8.
-fn checked_count(processors: usize) -> Result<usize, SetFault>
-    ensures { Counted processors result }
-{
-    match processors {
-        1..=MAX_PROCESSORS => Ok(processors),
-        _ => Err(SetFault::OffScale { task: 0 }),
-    }
-}
-
 // The plan of a task set on so many processors, under the order and the rule; a count outside 1 to 8 is refused.
 pub fn plan<O: PriorityOrder, R: ArrivalRule>(
     set: &TaskSet,
@@ -56,7 +46,7 @@ pub fn plan<O: PriorityOrder, R: ArrivalRule>(
     ensures refusal { IfErr result (λ e. refusal_of (plan_for set.now processors (O.before order.now) (R.curve rule.now)) ≡ Some (shown e)) }
     ensures lawful { IfOk result (λ p. Lawful set.now processors (O.before order.now) (R.curve rule.now) (plan_of p)) }
 {
-    let count = checked_count(processors)?;
-    let parts = placed_parts(set, count)?;
+    check_processors(processors)?;
+    let parts = placed_parts(set, processors)?;
     Proposal::new(with_windows(set, &parts, order, rule)?)
 }

@@ -8,7 +8,7 @@ use parts::lists::PartList;
 
 // Which pieces a processor may be chosen for: any; those that no open processor is left for, since a heavy task was placed on
 // it beforehand; none, since a piece was cut there.
-#[derive(Clone, Copy)]
+#[derive(Clone, Copy, PartialEq, Eq)]
 pub enum Standing {
     Open,
     Reserved,
@@ -30,6 +30,7 @@ pub enum Choice {
 }
 
 // The processors, the pieces to be placed, the numbers of the processors in reserve, and the parts placed so far.
+// (The task set goes with each call: a field would need a clause in every method that it stays.)
 #[derive(Drop)]
 pub struct Planner<'a> {
     processors: &'a mut [Processor],

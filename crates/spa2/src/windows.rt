@@ -24,7 +24,8 @@ fn is_listed(parts: &[Part], task: u8) -> bool
 }
 
 // The window of a part, which stands behind those that are done and have theirs; none if it is not 1 or more.
-// (Set, parts, order and rule stay parameters: `response_time` takes each, so a struct would only be taken apart.)
+// (Set, parts, order and rule stay parameters: the public `response_time` takes each, so a struct would only
+// be taken apart.)
 fn part_window<O: PriorityOrder, R: ArrivalRule>(
     set: &TaskSet,
     parts: &PartList,

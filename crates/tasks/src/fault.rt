@@ -30,7 +30,7 @@ impl From<SheetFault> for SetFault {
 }
 
 impl SetFault {
-    // Layer, number and place of the fault. The place is widened by `as`: there is no From into u64 for a usize.
+    // Layer, number and place of the fault.
     pub fn refusal(&self) -> Refusal
         ensures { result ≡ shown self.now }
     {
@@ -40,11 +40,7 @@ impl SetFault {
             SetFault::Falling { task } => (4, task),
             SetFault::Overfull { task } => (5, task),
         };
-        Refusal {
-            layer: Layer::Set,
-            number,
-            place: task as u64,
-        }
+        Refusal::new(Layer::Set, number, task)
     }
 }
 

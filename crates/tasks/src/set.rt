@@ -8,13 +8,14 @@ pub const MAX_TASKS: usize = 32;
 pub const MAX_TICKS: u32 = 100_000;
 
 // What a set says of one task, in ticks.
-#[derive(Clone, Copy)]
-struct Task {
-    period: u32,
-    cost: u32,
+#[derive(Clone, Copy, PartialEq, Eq, Debug)]
+pub struct Task {
+    pub period: u32,
+    pub cost: u32,
 }
 
-// 1 to 32 tasks: their periods never fall, and no cost is above its period.
+// 1 to 32 tasks: their periods never fall, and no cost is above its period. The count stands beside the array, since the laws speak of the
+// tasks that it counts, and a set is made whole: a list that is pushed to would be filled one by one and never grow again.
 #[derive(Clone, Copy)]
 pub struct TaskSet {
     count: usize,

@@ -11,10 +11,9 @@ use Rattle.tasks.specs.Orders.{as_asked, by_period}
 use Rattle.tasks.specs.Searches.{first_where}
 use Rattle.tasks.proofs.Sets.{past_period, past_cost}
 use Rattle.tasks.specs.Sets.{Holds, period_of, cost_of}
-use Rattle.rules.specs.Spacing.{spaced_curve}
+use Rattle.rules.specs.Spacing.{Spaced, spaced_curve}
 use Rattle.tasks.specs.declared.fault.SetFault.TheVariants as Sets
 use Rattle.tasks.specs.declared.set.TaskSet.{TaskSet}
-use Rattle.rules.specs.Spacing.{Spaced}
 use Rattle.plan.specs.Checks.{part_at, off_scale, twin, overlap, late}
 use Rattle.parts.specs.declared.fault.PlanFault.{PlanFault}
 use Rattle.parts.specs.declared.fault.PlanFault.TheVariants.{Set, OffScale, Stranger, Twin, Miscount, Overlap, Late, Cramped}

@@ -7,9 +7,8 @@ use Rattle.schedule.specs.TickRule.{Answer, history, started}
 use Rattle.tasks.specs.Numbers.{rounded_up}
 use Rattle.tasks.specs.Orders.{by_period}
 use Rattle.tasks.specs.Sets.{period_of}
-use Rattle.rules.specs.Spacing.{spaced_curve}
+use Rattle.rules.specs.Spacing.{Spaced, spaced_curve}
 use Rattle.tasks.specs.declared.set.TaskSet.{TaskSet}
-use Rattle.rules.specs.Spacing.{Spaced}
 use Rattle.plan.specs.Answers.{check_fault, check_answer}
 use Rattle.plan.specs.Checks.{response_times}
 use Rattle.parts.specs.Faults.{shown, by_plan}

@@ -35,49 +35,50 @@ fn begun(layout: &Layout, age: u32, next: Option<usize>) -> Job
     }
 }
 
-// The state of a job and the event together decide its next state.
-pub(crate) fn next_state(layout: &Layout, task: usize, job: Job, event: Event) -> Job
-    requires known { task < 32 }
-    requires fitting { fits (parts_of layout.now.list) job ≡ true }
-    requires may { may job event ≡ true }
-    ensures meaning { meant (parts_of layout.now.list) result ≡ after_event (parts_of layout.now.list) task event (meant (parts_of layout.now.list) job) }
-    ensures fitting { fits (parts_of layout.now.list) result ≡ true }
-{
-    match (job, event) {
-        (_, Event::Release) => begun(layout, 0, layout.first[task]),
-        (_, Event::Finish) => Job::Closed,
-        (Job::Closed, Event::Tick { .. }) => Job::Closed,
-        (Job::Waiting { age, part }, Event::Tick { .. }) => begun(layout, age + 1, Some(part)),
-        (Job::Ready { age, left, part }, Event::Tick { ran }) => {
-            let PlacedPart { end, next, .. } = layout.placed[part];
-            let older = age + 1;
-            let rest = if ran { left - 1 } else { left };
-            if rest == 0 || older == end {
-                begun(layout, older, next)
-            } else {
-                Job::Ready {
-                    age: older,
-                    left: rest,
-                    part,
+impl Dispatcher {
+    // The state of the task's job and the event together decide its next state.
+    fn next_state(&self, task: usize, event: Event) -> Job
+        requires known { task < 32 }
+        requires may { may (slice_index_or self.now.table.jobs task Closed) event ≡ true }
+        ensures meaning { meant (parts_of self.now.layout.list) result ≡ after_event (parts_of self.now.layout.list) task event (meant (parts_of self.now.layout.list) (slice_index_or self.now.table.jobs task Closed)) }
+        ensures fitting { fits (parts_of self.now.layout.list) result ≡ true }
+    {
+        let layout = &self.layout;
+        match (self.table.jobs[task], event) {
+            (_, Event::Release) => begun(layout, 0, layout.first[task]),
+            (_, Event::Finish) => Job::Closed,
+            (Job::Closed, Event::Tick { .. }) => Job::Closed,
+            (Job::Waiting { age, part }, Event::Tick { .. }) => begun(layout, age + 1, Some(part)),
+            (Job::Ready { age, left, part }, Event::Tick { ran }) => {
+                let PlacedPart { end, next, .. } = layout.placed[part];
+                let older = age + 1;
+                let rest = if ran { left - 1 } else { left };
+                if rest == 0 || older == end {
+                    begun(layout, older, next)
+                } else {
+                    Job::Ready {
+                        age: older,
+                        left: rest,
+                        part,
+                    }
                 }
             }
         }
     }
-}
 
-// Whether the job of the task is the one that runs on the processor of its part.
-fn has_run(layout: &Layout, task: usize, job: Job, running: &[u8; 8]) -> bool
-    requires fitting { fits (parts_of layout.now.list) job ≡ true }
-    ensures { result ≡ ran_by (parts_of layout.now.list) running.now task job }
-{
-    match job {
-        Job::Ready { part, .. } => usize::from(running[usize::from(layout.placed[part].processor)])
-            == task,
-        Job::Waiting { .. } | Job::Closed => false,
+    // Whether the task's job is the one that runs on the processor of its part.
+    fn has_run(&self, task: usize, running: &[u8; 8]) -> bool
+        requires known { task < 32 }
+        ensures { result ≡ ran_by (parts_of self.now.layout.list) running.now task (slice_index_or self.now.table.jobs task Closed) }
+    {
+        match self.table.jobs[task] {
+            Job::Ready { part, .. } => {
+                usize::from(running[usize::from(self.layout.placed[part].processor)]) == task
+            }
+            Job::Waiting { .. } | Job::Closed => false,
+        }
     }
-}
 
-impl Dispatcher {
     // Changes the record of one task by an event.
     pub(crate) fn happen(&mut self, task: usize, event: Event)
         requires known { task < 32 }
@@ -86,7 +87,7 @@ impl Dispatcher {
         ensures others { self.new.table.jobs ≡ slice_set self.old.table.jobs task (slice_index_or self.new.table.jobs task Closed) }
         ensures meaning { meant (parts_of self.old.layout.list) (slice_index_or self.new.table.jobs task Closed) ≡ after_event (parts_of self.old.layout.list) task event (meant (parts_of self.old.layout.list) (slice_index_or self.old.table.jobs task Closed)) }
     {
-        self.table.jobs[task] = next_state(&self.layout, task, self.table.jobs[task], event);
+        self.table.jobs[task] = self.next_state(task, event);
     }
 
     // A tick passes for the job of each task.
@@ -94,9 +95,9 @@ impl Dispatcher {
         ensures layout { self.new.layout ≡ self.old.layout }
         ensures aged { (i : ℕ) → i < count_of self.old.layout.set → Aged (parts_of self.old.layout.list) running.now i (slice_index_or self.old.table.jobs i Closed) (slice_index_or self.new.table.jobs i Closed) }
     {
-        // by number, since that is what `happen` takes: an `iter_mut` over the records would lend out what it changes
+        // by number: `happen` takes the dispatcher whole, and an `iter_mut` over its records would keep them lent meanwhile
         for task in 0..self.layout.set.count() {
-            let ran = has_run(&self.layout, task, self.table.jobs[task], running);
+            let ran = self.has_run(task, running);
             self.happen(task, Event::Tick { ran });
         }
     }

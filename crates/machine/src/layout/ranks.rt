@@ -27,7 +27,7 @@ pub(crate) fn ranks_of<O: PriorityOrder>(set: &TaskSet, order: &O) -> Ranks
     for task in 0..set.count() {
         let own = rank(set, order, task);
         ranks[task] = own;
-        // `as`: a set has at most 32 tasks, which is proved; a TryFrom would bring an error that cannot come
+        // `as` is proved to fit, since a set has at most 32 tasks; it is plainer than a TryFrom that is unwrapped
         by_rank[own] = task as u8;
     }
     Ranks { ranks, by_rank }

@@ -22,6 +22,7 @@ pub(crate) fn placed_of(parts: &[Part]) -> [PlacedPart; MAX_PARTS]
     };
     let mut spans = [0u32; MAX_TASKS];
     let mut placed = [unplaced; MAX_PARTS];
+    // `placed` by number: after a `zip` with `iter_mut` a proof knows no element
     for (k, part) in parts.iter().enumerate() {
         let task = usize::from(part.task);
         let begin = spans[task];
@@ -51,6 +52,7 @@ pub(crate) fn link_parts(
     ensures first { (i : ℕ) → i < 32 → slice_index_or result i None ≡ next_part parts.now i 0 }
 {
     let mut first = [None; MAX_TASKS];
+    // by number, as above; a link is the number of a part
     for (k, part) in parts.iter().enumerate().rev() {
         let task = usize::from(part.task);
         placed[k].next = first[task];

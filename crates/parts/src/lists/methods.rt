@@ -25,7 +25,7 @@ impl FixedList<Part, MAX_PARTS> {
         ensures { parts_of result ≡ part ∷ [] }
     {
         let mut list = FixedList::filled(part);
-        let _ = list.push(part);
+        list.push(part).unwrap();
         list
     }
 

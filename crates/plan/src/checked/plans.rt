@@ -17,7 +17,20 @@ impl<O, R> CheckedPlan<O, R> {
         ensures passed { numbers_pass result.set result.processors (parts_of result.list) ≡ true }
         ensures same { (result.set ≡ self.set) × (result.processors ≡ self.processors) × (result.list ≡ self.list) × (result.order ≡ self.order) × (result.rule ≡ self.rule) }
     {
-        self.carried
+        let CheckedPlan {
+            set,
+            processors,
+            list,
+            order,
+            rule,
+        } = self;
+        Carried {
+            set,
+            processors,
+            list,
+            order,
+            rule,
+        }
     }
 }
 
@@ -36,13 +49,11 @@ impl<O: PriorityOrder, R: ArrivalRule> CheckedPlan<O, R> {
             window: 1,
         });
         CheckedPlan {
-            carried: Carried {
-                set,
-                processors: 1,
-                list,
-                order,
-                rule,
-            },
+            set,
+            processors: 1,
+            list,
+            order,
+            rule,
         }
     }
 }

@@ -17,10 +17,13 @@ fn first_off_limits(sizes: &[u32], refills: &[u32]) -> Option<usize>
     requires { length refills.now ≡ length sizes.now }
     ensures { result ≡ first_where (off_limits sizes.now refills.now) (length sizes.now) }
 {
-    (0..sizes.len()).find(|i| sizes[*i] < 1 || sizes[*i] > MAX_TOKENS || !is_on_scale(refills[*i]))
+    sizes.iter().zip(refills).position(|(size, refill)| {
+        !(1..=MAX_TOKENS).contains(size) || !is_on_scale(*refill)
+    })
 }
 
-// The full bucket of a task, whose size and refill time are 1 past the given ones.
+// The full bucket of a task, whose size and refill time are 1 past the given ones. An `if`, as it makes a bucket of two known numbers; two
+// options with defaults would have to be shown to be both there or both not.
 #[tactic(auto, using(crate::proofs::Buckets::within_limits))]
 fn full_bucket(sizes: &[u32], refills: &[u32], task: usize) -> Tokens
     requires { bucket_fault sizes.now refills.now ≡ None }

@@ -8,7 +8,8 @@ use crate::fault::SheetFault;
 use crate::symbol::classes::classify;
 use crate::symbol::{Limits, Stop, Symbol};
 
-// How long an input is; more than 4,096 bytes are refused.
+// How long an input is; more than 4,096 bytes are refused. The readers need only the refusal: the length stays, since the
+// function has been public with it.
 pub fn length_of(bytes: &[u8]) -> Result<usize, SheetFault>
     ensures { result ≡ opened bytes.now }
 {
@@ -53,7 +54,7 @@ impl<'a> Cursor<'a> {
     pub fn end(&self) -> Result<(), SheetFault>
         ensures { result ≡ ended self.now.at self.now.rest.now }
     {
-        if self.rest.len() > 0 {
+        if !self.rest.is_empty() {
             return Err(self.misspelt());
         }
         Ok(())

@@ -43,19 +43,20 @@ pub(crate) fn sheet_of(draft: &TaskDraft) -> Result<TaskSheet, SetFault>
 }
 
 // The parts with these places and amounts.
-fn assemble(places: &[Pair], amounts: &[Pair]) -> PartList
+fn assemble(places: &[Pair<u32>], amounts: &[Pair<u32>]) -> PartList
     requires { (length amounts.now ≡ length places.now) × ((length places.now ≤ 64) × (((i : ℕ) → i < length places.now → ((slice_index_or places.now i record { left = 0; right = 0 }).left < 256) × ((slice_index_or places.now i record { left = 0; right = 0 }).right < 256)))) }
     ensures { parts_of result ≡ assembled places.now amounts.now }
 {
     let mut list = PartList::empty();
-    // by `as`, which the clause proves right: try_from would bring an error that cannot come
+    // by `as`, which the clause proves right and which is plainer than a try_from that is unwrapped
     for (place, amounts) in places.iter().zip(amounts) {
-        let _ = list.push(Part {
+        list.push(Part {
             task: place.left as u8,
             processor: place.right as u8,
             cost: amounts.left,
             window: amounts.right,
-        });
+        })
+        .unwrap();
     }
     list
 }

@@ -5,7 +5,7 @@ ghost use Rattle.sheet.specs.declared.symbol.Stop.{Stop};
 ghost use Rattle.sheet.specs.Reading.{Read, Parses, ParsesAs, number};
 ghost use Rattle.sheets.specs.Grammar.{items, pair_within, next_stop};
 
-use crate::lines::{Pair, PairLimits};
+use crate::lines::Pair;
 use parts::fixed::FixedList;
 use sheet::cursor::Cursor;
 use sheet::fault::SheetFault;
@@ -32,12 +32,16 @@ impl Item for u32 {
     }
 }
 
-impl Item for Pair {
-    type Within = PairLimits;
+impl Item for Pair<u32> {
+    type Within = Pair<Limits>;
 
     ghost item = { pair_within };
 
-    fn read(cursor: &mut Cursor, within: PairLimits, stop: Stop) -> Result<Pair, SheetFault> {
+    fn read(
+        cursor: &mut Cursor,
+        within: Pair<Limits>,
+        stop: Stop,
+    ) -> Result<Pair<u32>, SheetFault> {
         let left = cursor.number(within.left, Stop::Slash)?;
         cursor.expect('/')?;
         let right = cursor.number(within.right, stop)?;
@@ -65,10 +69,11 @@ pub(crate) fn read_items<T: Item, const N: usize>(
     ensures { ParsesAs elements (items T.item limits.now) cursor.old result cursor.new }
 {
     let mut list = FixedList::filled(T::default());
+    // how many are still to come is the length less 1 and the place: counts that fall from it, zipped in, are no plainer
     for (i, within) in limits.iter().enumerate() {
         cursor.expect(' ')?;
         let item = T::read(cursor, *within, stop_before(limits.len() - 1 - i))?;
-        let _ = list.push(item);
+        list.push(item).unwrap();
     }
     cursor.expect('\n')?;
     Ok(list)

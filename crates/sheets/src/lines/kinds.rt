@@ -6,8 +6,8 @@ ghost use Rattle.parts.specs.Fixed.{elements};
 ghost use Rattle.sheet.specs.Reading.{ParsesAs};
 ghost use Rattle.sheets.specs.Grammar.{line_of_numbers, line_of_pairs};
 
+use crate::lines::Pair;
 use crate::lines::items::read_items;
-use crate::lines::{Pair, PairLimits};
 use parts::fixed::FixedList;
 use sheet::cursor::Cursor;
 use sheet::fault::SheetFault;
@@ -25,12 +25,12 @@ const TICKS: Limits = Limits {
     most: 100_000,
 };
 
-const PLACE: PairLimits = PairLimits {
+const PLACE: Pair<Limits> = Pair {
     left: Limits { least: 0, most: 31 },
     right: Limits { least: 0, most: 7 },
 };
 
-const AMOUNTS: PairLimits = PairLimits {
+const AMOUNTS: Pair<Limits> = Pair {
     left: TICKS,
     right: TICKS,
 };
@@ -58,7 +58,7 @@ pub(crate) fn pair_line(
     cursor: &mut Cursor,
     letter: char,
     count: usize,
-) -> Result<FixedList<Pair, 64>, SheetFault>
+) -> Result<FixedList<Pair<u32>, 64>, SheetFault>
     requires { count ≤ 64 }
     ensures { ParsesAs elements (line_of_pairs letter count) cursor.old result cursor.new }
 {

@@ -1,27 +1,26 @@
 // What is added to a text.
 ghost use Rattle.std.specs.Prelude.{◌≡◌, ℕ, ◌+◌, ◌<◌, ◌≤◌, true, [], ◌∷◌, ◌++◌, length, slice_index_or};
-ghost use Rattle.sheet.specs.Numerals.{numeral};
+ghost use Rattle.std.specs.Fmt.{decimal};
 ghost use Rattle.sheets.specs.Texts.{text_of, pair_shown, pair_of, letter_of, line_text, count_text, plan_text, writable, no_part};
 
 use crate::lines::Pair;
 use crate::text::{Line, Text};
-use arrayvec::ArrayString;
-use itoa::{Buffer, Integer};
+use parts::fixed::FixedList;
 use schedule::Part;
 
 impl Line {
     // The letter that the line starts with.
-    fn letter(self) -> &'static str
-        ensures { result.now ≡ letter_of self ∷ [] }
+    fn letter(self) -> u8
+        ensures { result ≡ letter_of self }
     {
         match self {
-            Line::Places => "P",
-            Line::Amounts => "A",
+            Line::Places => b'P',
+            Line::Amounts => b'A',
         }
     }
 
     // What stands on the line for a part.
-    fn pair(self, part: &Part) -> Pair
+    fn pair(self, part: &Part) -> Pair<u32>
         ensures { result ≡ pair_of self part.now }
     {
         match self {
@@ -42,34 +41,45 @@ impl Text {
         ensures { text_of result ≡ [] }
     {
         Text {
-            written: ArrayString::new(),
+            written: FixedList::filled(0),
         }
     }
 
     pub(crate) fn as_slice(&self) -> &[u8]
         ensures { result.now ≡ text_of self.now }
     {
-        self.written.as_str().as_bytes()
+        self.written.as_slice()
     }
 
-    // Adds a number. No fmt::Write here: no contract says that a write to one succeeds where there is room.
-    fn push_number<I: Integer>(&mut self, value: I)
-        requires { length (text_of self.old) + length (I.text value) ≤ 1225 }
-        ensures { text_of self.new ≡ text_of self.old ++ I.text value }
+    // Adds a byte.
+    fn push(&mut self, byte: u8)
+        requires { length (text_of self.old) < 1225 }
+        ensures { text_of self.new ≡ text_of self.old ++ (byte ∷ []) }
     {
-        let mut buffer = Buffer::new();
-        self.written.push_str(buffer.format(value));
+        self.written.push(byte).unwrap();
+    }
+
+    // Adds a number, its digits by hand: no contract says that `write!` through fmt::Write succeeds where there is room, and the
+    // kit's printer of integers would be one more crate to trust.
+    fn push_number(&mut self, value: u32)
+        requires { length (text_of self.old) + length (decimal value) ≤ 1225 }
+        ensures { text_of self.new ≡ text_of self.old ++ decimal value }
+    {
+        if value >= 10 {
+            self.push_number(value / 10);
+        }
+        self.push(b'0' + (value % 10) as u8);
     }
 
     // Adds a space and two numbers with a slash between them.
-    fn push_pair(&mut self, pair: Pair)
+    fn push_pair(&mut self, pair: Pair<u32>)
         requires six { (pair.left < 1000000) × (pair.right < 1000000) }
         requires room { length (text_of self.old) + length (32 ∷ pair_shown pair) ≤ 1225 }
         ensures { text_of self.new ≡ text_of self.old ++ (32 ∷ pair_shown pair) }
     {
-        self.written.push_str(" ");
+        self.push(b' ');
         self.push_number(pair.left);
-        self.written.push_str("/");
+        self.push(b'/');
         self.push_number(pair.right);
     }
 
@@ -79,9 +89,10 @@ impl Text {
         requires room { length (text_of self.old) + length (count_text count) ≤ 1225 }
         ensures { text_of self.new ≡ text_of self.old ++ count_text count }
     {
-        self.written.push_str("K ");
-        self.push_number(count);
-        self.written.push_str("\n");
+        self.push(b'K');
+        self.push(b' ');
+        self.push_number(count as u32);
+        self.push(b'\n');
     }
 
     // Adds a line with a pair for each part.
@@ -90,11 +101,11 @@ impl Text {
         requires room { length (text_of self.old) + length (line_text line parts.now) ≤ 1225 }
         ensures { text_of self.new ≡ text_of self.old ++ line_text line parts.now }
     {
-        self.written.push_str(line.letter());
+        self.push(line.letter());
         for part in parts {
             self.push_pair(line.pair(part));
         }
-        self.written.push_str("\n");
+        self.push(b'\n');
     }
 
     // The plan sheet of the parts.

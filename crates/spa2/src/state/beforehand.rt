@@ -27,8 +27,8 @@ impl<'a> Planner<'a> {
         // `as` below: there is no From into u64 for a usize
         let free = self.processors.len().saturating_sub(self.reserve.len());
         is_heavy(task_load(set, usize::from(task)), theta)
-            && free >= 1
-            && followers_load(set, task) <= (free as u64 - 1) * theta
+            && free.checked_sub(1).is_some_and(|others| followers_load(set, task)
+                <= others as u64 * theta)
     }
 
     // Places a task whole on the smallest processor that is not taken, which goes to the front of the reserve.
@@ -43,7 +43,7 @@ impl<'a> Planner<'a> {
             standing: Standing::Reserved,
         };
         self.reserve.push_front(number).unwrap();
-        // `as`: one of 8 processors, which is proved; a TryFrom would bring an error that cannot come
+        // `as`: one of 8 processors, so it is proved to fit, and plainer than a TryFrom that is unwrapped
         self.parts
             .push(Piece::of_task(set, task).on(number as u8))
             .unwrap();

@@ -39,7 +39,8 @@ impl<'a> Planner<'a> {
         ensures enough { weight (seen self.new) ≤ count_of set.now + length (seen self.old).processors }
         ensures light { length (seen self.new).parts + weight (seen self.new) ≤ 64 }
     {
-        // over numbers: a set has no list of its tasks, and each visit changes the planner. `as`: at most 32 tasks, which is proved
+        // over numbers, not the set's `tasks()`: a visit asks for the tasks that follow by theirs.
+        // `as`: at most 32 tasks, which is proved
         for task in 0..set.count() as u8 {
             self.visit(set, task);
         }

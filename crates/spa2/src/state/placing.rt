@@ -28,6 +28,7 @@ impl<'a> Planner<'a> {
         ensures after { MatchOption result (seen self.new ≡ seen self.old) (λ c. seen self.new ≡ after_choice (seen self.old) c) }
         ensures known { IfSome result (λ c. number_of c < length (seen self.new).processors) }
     {
+        // tried with `or_else`; what its closure, which changes the reserve, leaves of the planner stayed open
         if let Some(seat) = self.least_loaded() {
             return Some(Choice::Normal(seat.number));
         }
@@ -52,7 +53,7 @@ impl<'a> Planner<'a> {
     {
         let number = choice.number();
         self.processors[number].load += piece.load(set);
-        // `as`, as below: one of 8 processors, which is proved; a TryFrom would bring an error that cannot come
+        // `as`, as below: one of 8 processors, so it is proved to fit, and plainer than a TryFrom that is unwrapped
         self.parts.push(piece.on(number as u8)).unwrap();
         if let Choice::Spare(number) = choice {
             self.reserve.push_front(number).unwrap();
@@ -84,11 +85,9 @@ impl<'a> Planner<'a> {
         requires room { length (seen self.old).pieces < 32 }
         ensures { MatchResult result (λ _. turn (tasks_of set.now) (seen self.old) piece ≡ Some (seen self.new)) (λ e. (turn (tasks_of set.now) (seen self.old) piece ≡ None) × (e ≡ Unplaced piece.task)) }
     {
-        let Some(choice) = self.choose() else {
-            return Err(PlanFault::Unplaced {
-                task: usize::from(piece.task),
-            });
-        };
+        let choice = self.choose().ok_or(PlanFault::Unplaced {
+            task: usize::from(piece.task),
+        })?;
         let old = self.processors[choice.number()];
         if old.load.saturating_add(piece.load(set)) > threshold_of(set) {
             return self.place_cut(set, piece, choice);

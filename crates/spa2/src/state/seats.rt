@@ -1,24 +1,15 @@
 // Which of the processors is the least loaded.
 ghost use Rattle.std.specs.Prelude.{◌≡◌};
-ghost use Rattle.spa2.specs.Choices.{is_open, least_loaded_seat, LeastOpen};
+ghost use Rattle.spa2.specs.Choices.{least_loaded_seat, LeastOpen};
 ghost use Rattle.spa2.specs.Seen.{seen};
 
 use crate::state::{Planner, Standing};
 
-// An open processor: its number and its load.
+// An open processor: its number and its load. (The planner needs the number alone; the load is in what is promised of it.)
 #[derive(Clone, Copy)]
 pub struct Seat {
     pub number: usize,
     pub load: u64,
-}
-
-impl Standing {
-    // Whether the processor may be chosen for any piece.
-    fn is_open(self) -> bool
-        ensures { result ≡ is_open self }
-    {
-        matches!(self, Standing::Open)
-    }
 }
 
 impl<'a> Planner<'a> {
@@ -30,7 +21,7 @@ impl<'a> Planner<'a> {
         self.processors
             .iter()
             .enumerate()
-            .filter(|(_, processor)| processor.standing.is_open())
+            .filter(|(_, processor)| processor.standing == Standing::Open)
             .min_by_key(|(_, processor)| processor.load)
             .map(|(number, processor)| Seat {
                 number,

@@ -21,7 +21,7 @@ pub fn is_on_scale(ticks: u32) -> bool
     (1..=MAX_TICKS).contains(&ticks)
 }
 
-// The searches take the two lists as `new` is given them: a struct of both would only be made and taken apart for one call.
+// The searches take the two lists as `new` is given them, since what they refuse is said of the lists; only lists that pass are made tasks of.
 
 // The first task whose period or cost is outside its limits.
 fn first_off_scale(periods: &[u32], costs: &[u32]) -> Option<usize>
@@ -112,14 +112,15 @@ impl TaskSet {
         self.count
     }
 
-    // The tasks of the set.
-    fn tasks(&self) -> &[Task]
+    // The tasks of the set, in their order.
+    pub fn tasks(&self) -> &[Task]
         ensures { result.now ≡ task_list self.now }
     {
         &self.tasks[..self.count]
     }
 
-    // The period of a task; 1 past the set's tasks.
+    // The period of a task; 1 past the set's tasks. No Option here, nor in `cost`: orders and rules may be asked of any number, and what
+    // stands past the last task is the rules' own.
     pub fn period(&self, task: usize) -> u32
         ensures { result ≡ period_of self.now task }
     {

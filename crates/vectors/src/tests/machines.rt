@@ -8,14 +8,14 @@ fn tasks_take_turns(rt: HostRuntime) -> Result<(), Fail> {
     let mut machine = two_tasks()?;
     machine.release(0)?;
     machine.release(1)?;
-    runs(&rt, &mut machine, 5, 0)?;
-    runs(&rt, &mut machine, 4, 1)?;
+    runs(&rt, &mut machine, 5, [0, 7])?;
+    runs(&rt, &mut machine, 4, [1, 7])?;
     assert_eq!(rt; machine.release(0), Err(MachineFault::TooSoon { task: 0 }));
-    runs(&rt, &mut machine, 1, 1)?;
+    runs(&rt, &mut machine, 1, [1, 7])?;
     machine.release(0)?;
-    runs(&rt, &mut machine, 5, 0)?;
-    runs(&rt, &mut machine, 1, 1)?;
-    runs(&rt, &mut machine, 1, 255)?;
+    runs(&rt, &mut machine, 5, [0, 7])?;
+    runs(&rt, &mut machine, 1, [1, 7])?;
+    runs(&rt, &mut machine, 1, [255, 7])?;
     assert_eq!(rt; machine.clock(), 17);
     Ok(())
 }
@@ -53,7 +53,7 @@ fn a_job_can_end_early(rt: HostRuntime) -> Result<(), Fail> {
     assert_eq!(rt; machine.ready_count(0)?, 2);
     machine.finish(0)?;
     assert_eq!(rt; machine.ready_word(0)?, 2);
-    runs(&rt, &mut machine, 1, 1)?;
+    runs(&rt, &mut machine, 1, [1, 7])?;
     machine.restart();
-    runs(&rt, &mut machine, 1, 255)
+    runs(&rt, &mut machine, 1, [255, 7])
 }

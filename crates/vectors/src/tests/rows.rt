@@ -138,11 +138,11 @@ fn a_release_waits_for_its_period(rt: HostRuntime) -> Result<(), Fail> {
     )?);
     machine.release(0)?;
     machine.release(1)?;
-    runs(&rt, &mut machine, 5, 0)?;
-    runs(&rt, &mut machine, 4, 1)?;
+    runs(&rt, &mut machine, 5, [0])?;
+    runs(&rt, &mut machine, 4, [1])?;
     assert_eq!(rt; machine.release(0), Err(MachineFault::TooSoon { task: 0 }));
-    runs(&rt, &mut machine, 1, 1)?;
+    runs(&rt, &mut machine, 1, [1])?;
     machine.release(0)?;
-    runs(&rt, &mut machine, 5, 0)?;
-    runs(&rt, &mut machine, 1, 1)
+    runs(&rt, &mut machine, 5, [0])?;
+    runs(&rt, &mut machine, 1, [1])
 }

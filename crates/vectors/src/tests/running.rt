@@ -40,17 +40,17 @@ pub fn two_tasks() -> Result<Machine<RateMonotonic, Spaced>, Fail> {
     Ok(Machine::start(place))
 }
 
-// The one processor runs this task in each of the next ticks, and no tick writes past it.
-pub fn runs(
+// In each of the next ticks a buffer of sevens holds these bytes afterwards.
+pub fn runs<const N: usize>(
     rt: &impl Abort,
     machine: &mut Machine<RateMonotonic, Spaced>,
     ticks: u8,
-    task: u8,
+    wanted: [u8; N],
 ) -> Result<(), Fail> {
     for _ in 0..ticks {
-        let mut answer = [7, 7];
+        let mut answer = [7; N];
         machine.tick(&mut answer)?;
-        assert_eq!(rt; answer, [task, 7]);
+        assert_eq!(rt; answer, wanted);
     }
     Ok(())
 }

@@ -1,4 +1,4 @@
-use Rattle.std.proofs.Common.{◌≡◌, ℕ, ◌≤◌, length, Ok, sym, ◌∙◌, subst, arith}
+use Rattle.std.proofs.Common.{◌≡◌, ℕ, ◌≤◌, length, Ok, sym, ◌∙◌, arith}
 use Rattle.tasks.specs.Numbers.{as_numbered}
 use Rattle.tasks.specs.Orders.{as_asked}
 use Rattle.tasks.specs.Sets.{key_of}
@@ -17,24 +17,24 @@ returns g c =
     let set = c.args.set.now in
     let t = tasks_of set in
     let m = c.args.processors in
-    let counted = c.in_ok-count.ensures in
+    let counted = c.in_ok-check_processors.ensures in
     let before = λ (a b : ℕ). g.O.PriorityOrder.before c.args.order.now (as_asked (key_of set a)) (as_asked (key_of set b)) in
     let curve = λ (i : ℕ). g.R.ArrivalRule.curve c.args.rule.now (as_numbered i) in
     let ps = parts_of c.in_ok-parts.parts in
     let list = c.in_ok-with_windows.field-0 in
     let qs = parts_of list in
-    let placed : parts_placed t m ≡ Ok ps = subst (λ (k : ℕ). parts_placed t k ≡ Ok ps) counted.0 (sym c.in_ok-parts.ensures) in
+    let placed : parts_placed t m ≡ Ok ps = sym c.in_ok-parts.ensures in
     let some = parts_some t m ps set.some placed in
     let long = windowed_length t (response_within (system_of t m before curve ps)) ps _ qs (sym c.in_ok-with_windows.ensures) in
     let given = sym c.in_ok-with_windows.ensures in
     let most : 1 ≤ length qs = omega (arith, some, long) in
     let answer = proposed_answer qs c.new.result most (omega (arith, listed_length list, list.few)) c.new.ensures in
     let sys = system_of t m before curve ps in
-    let same = answer ∙ sym (spa2_done t m before curve ps qs counted.1 counted.2 placed given) in
+    let same = answer ∙ sym (spa2_done t m before curve ps qs counted.0 counted.1 placed given) in
     record {
       value = same;
       refusal = refused_alike c.new.result _ same;
       lawful = made_lawful set m (g.O.PriorityOrder.before c.args.order.now) (g.R.ArrivalRule.curve c.args.rule.now) qs c.new.result answer
           (lawful_plan set m (g.O.PriorityOrder.before c.args.order.now) (g.R.ArrivalRule.curve c.args.rule.now) (response_within sys) ps qs (response_most sys)
-          counted.1 counted.2 most placed given);
+          counted.0 counted.1 most placed given);
     }

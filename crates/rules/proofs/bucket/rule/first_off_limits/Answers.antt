@@ -1,8 +1,11 @@
-use Rattle.std.proofs.Common.{length, rules}
+use Rattle.std.proofs.Common.{rules}
+use Rattle.std.specs.Prelude.{not, ◌||◌, ◌&&◌, nat_le}
 use borrow.Author.Tests.{tests}
-use Rattle.tasks.proofs.Searches.{find_first}
-use Rattle.rules.specs.Buckets.{off_limits}
+use Rattle.tasks.proofs.Searches.{first_pair}
+use Rattle.tasks.specs.Sets.{on_scale}
 use Rattle.rules.proofs.bucket.rule.first_off_limits.Goals as goal
 
 pub returns : goal.returns
-returns c = find_first (off_limits c.args.sizes.now c.args.refills.now) (length c.args.sizes.now) _ _ c.find.ensures.ran (λ i q k. search (rules, tests)) (λ i q k. search (rules, tests))
+returns c =
+    first_pair (λ s r. not (nat_le 1 s && nat_le s 1000) || not (on_scale r)) c.args.sizes.now c.args.refills.now c.position.new.self _ c.position.ensures.ran (cc) (cc) c.requires
+    (λ x q k. search (rules, tests)) (λ x q k. search (rules, tests))
