@@ -1,6 +1,7 @@
 -- Two places keep the laws of an arrival rule, over bare numbers: f and s are the ticks until they are free.
-use Rattle.std.proofs.Common.{arith, add-mul}
-use Rattle.std.specs.Prelude.{ℕ, ◌+◌, ◌-◌, ◌<◌, ◌≤◌, refl}
+use Rattle.std.proofs.Common.{inl, inr, arith, add-mul}
+use Rattle.std.specs.Prelude.{◌≡◌, ℕ, ◌+◌, ◌-◌, ◌<◌, ◌≤◌, min, max, refl}
+use Rattle.std.proofs.lemmas.Bool.{cases_lt}
 use Rattle.schedule.specs.Curves.{Curve}
 use Rattle.tasks.specs.Arrivals.{Left}
 use Rattle.tasks.specs.Numbers.{rounded_up}
@@ -33,3 +34,24 @@ places_left f s low high = record {
   steps = λ L _. places_step f s low high L;
   within = λ L _. omega (arith, grows (L - f) (L - 0) (omega arith), grows (L - s) (L - 1) (omega arith));
 }
+
+-- a tick passes
+pub places_advance : (f s : ℕ) → f < s → s ≤ 7 → (L : ℕ) → 1 ≤ L → places (max (f - 1) 0) (max (s - 1) 1) L ≡ min (places f s (L + 1)) (places 0 1 L)
+places_advance f s low high L l =
+    elim (cases_lt 0 f) [
+      | inl h ↦
+          let e : L - max (f - 1) 0 ≡ L + 1 - f = omega arith in
+          let d : L - max (s - 1) 1 ≡ L + 1 - s = omega arith in
+          rw (e, d) (omega (arith, grows (L + 1 - f) (L - 0) (omega arith), grows (L + 1 - s) (L - 1) (omega arith)))
+      | inr h ↦
+          let e : L - max (f - 1) 0 ≡ L - 0 = omega arith in
+          elim (cases_lt 1 s) [
+            | inl k ↦
+                let d : L - max (s - 1) 1 ≡ L + 1 - s = omega arith in
+                let c : L + 1 - f ≡ L + 1 = omega arith in
+                rw (e, d, c) (omega (arith, over (L + 1) (L + 1 - s) (omega arith), grows (L - 0) (L + 1) (omega arith), over (L + 1) (L - 0) (omega arith), grows (L - 1) (L - 0) (omega arith), grows (L + 1 - s) (L - 1) (omega arith)))
+            | inr k ↦
+                let d : L - max (s - 1) 1 ≡ L - 1 = omega arith in
+                rw (e, d) (omega (arith, grows (L - 0) (L + 1 - f) (omega arith), grows (L - 1) (L + 1 - s) (omega arith)))
+          ]
+    ]

@@ -1,8 +1,6 @@
 -- The lowest set bit of a ready word names the task that runs.
-use Rattle.std.proofs.Common.{◌≡◌, ℕ, zero, suc, ◌+◌, ◌<◌, ◌≤◌, Bool, true, false, cond, eqb, ltb, ◌⊎◌, List, [], ◌∷◌, get_or, sym, refl, ap, ◌∙◌, subst, inl, inr, arith}
+use Rattle.std.proofs.Common.{◌≡◌, ℕ, zero, suc, ◌<◌, ◌≤◌, Bool, true, false, cond, eqb, ltb, ◌⊎◌, List, [], ◌∷◌, get_or, sym, refl, ap, ◌∙◌, subst, inl, inr, arith}
 use lib.Count.{count_trailing_zeros}
-use denote.Param.Members.{Called, Mut}
-use Rattle.std.specs.Array.{MapsFrom}
 use Rattle.std.proofs.lemmas.List.{get_or_default, get_or_past}
 use Rattle.std.proofs.lemmas.Bool.{cases_Bool, cases_eq, cases_lt, and_from, and_parts, or_cases, or_right, or_left, eq-eqb, ne_eqb, eqb-true, ltb-true, ltb-false, both_ways}
 use Rattle.schedule.specs.Lists.{◌∈◌, below}
@@ -151,19 +149,6 @@ word_names l table p word e before curve left clock ranked =
     elim (cases_lt r 32) [
       | inl h ↦ get_or_default l.by_rank r 255 0 (omega (arith, l.all_ranked)) ∙ lowest_runs l table before curve left clock ranked p r (low.here h) low.under_it
       | inr h ↦ get_or_past l.by_rank r 255 (omega (arith, l.all_ranked)) ∙ sym (none_runs l table before curve left clock ranked p (λ q lt. low.under_it q (omega arith)))
-    ]
-
--- What a closure that answers h of each element, and stays as it was, makes of the elements from i on.
-pub mapped : {F A B : Type 0} (g : Mut F (A × Unit {0}) B) (f : F) (h : A → B) (xs : List A) (ys : List B) (i n : ℕ) → ((x : A) (y : B) (q : F) → Called g f (x, tt) y q → (q ≡ f) × (y ≡ h x)) →
-    MapsFrom g f xs ys i n → (k : ℕ) (d : A) (e : B) → i ≤ k → k < i + n → get_or ys k e ≡ h (get_or xs k d)
-mapped g f h xs ys i zero call maps k d e low high = absurd (omega arith)
-mapped {F} {A} {B} g f h xs ys i (suc n) call maps k d e low high =
-    let q = maps.0 in
-    let made = call maps.1 maps.2 q maps.5 in
-    elim (cases_eq k i) [
-      | inl same ↦
-          ap (λ (z : ℕ). get_or ys z e) same ∙ maps.4.1 e ∙ made.1 ∙ ap h (sym (maps.3.1 d)) ∙ ap (λ (z : ℕ). h (get_or xs z d)) (sym same)
-      | inr ne ↦ mapped g f h xs ys (i + 1) n call (subst (λ (z : F). MapsFrom g z xs ys (i + 1) n) made.0 maps.6) k d e (omega arith) (omega arith)
     ]
 
 -- What runs on a processor is ready there.

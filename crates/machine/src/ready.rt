@@ -43,6 +43,12 @@ impl Dispatcher {
         ensures whole { length result ≡ 8 }
         ensures value { Runs self.now.layout self.now.table result }
     {
-        self.ready_words().map(|word| self.first_in(word))
+        let words = self.ready_words();
+        let mut running = [IDLE; 8];
+        // the plan's processors alone: a `map` of the words would go over all eight
+        for (processor, word) in words[..self.layout.processors].iter().enumerate() {
+            running[processor] = self.first_in(*word);
+        }
+        running
     }
 }

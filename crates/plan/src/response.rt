@@ -10,12 +10,10 @@ ghost use Rattle.plan.specs.Workloads.{system_of};
 use parts::lists::PartList;
 use schedule::Part;
 use tasks::arrival::ArrivalRule;
-use tasks::numbers::stretch;
 use tasks::order::PriorityOrder;
 use tasks::set::TaskSet;
 
 // The longest stretch in which a response time is looked for, the longest that the curve's question tells apart.
-// (Callers may name it, so it stays; here `stretch` reads the limit, as it reads lengths for a curve.)
 pub const LONGEST: u32 = 1_000_000;
 
 // A part among parts: what it and all that can go before it may ask of its processor.
@@ -84,7 +82,7 @@ pub fn response_time<O: PriorityOrder, R: ArrivalRule>(
         order,
         rule,
     };
-    let longest = stretch(u64::from(limit));
+    let longest = u64::from(limit.min(LONGEST));
     let mut length = 1;
     // a `while`: each length that is tried is what the one before it needs, up to one that suffices for itself
     while length <= longest {

@@ -1,6 +1,6 @@
 -- Division that rounds up: it is the least factor that reaches, and all else follows from that.
 use Rattle.std.proofs.Common.{inl, inr, arith, mul-le-mul_right, add-mul}
-use Rattle.std.specs.Prelude.{◌≡◌, ℕ, ◌+◌, ◌*◌, ◌/◌, ◌%◌, ◌<◌, ◌≤◌, min}
+use Rattle.std.specs.Prelude.{◌≡◌, ℕ, zero, suc, ◌+◌, ◌-◌, ◌*◌, ◌/◌, ◌%◌, ◌<◌, ◌≤◌, min}
 use Rattle.std.proofs.lemmas.Nat.{div-add-mod', mod_below, div_below}
 use Rattle.std.proofs.lemmas.Bool.{cases_lt}
 use Rattle.tasks.specs.Numbers.{rounded_up}
@@ -50,3 +50,14 @@ module _ (b : ℕ) (pos : 1 ≤ b) where
 
   pub rounded_step : (a : ℕ) → rounded_up (a + 1) b ≤ rounded_up a b + 1
   rounded_step a = omega (arith, rounded_sum a 1, rounded_one)
+
+  -- b less is 1 less
+  pub rounded_back : (a : ℕ) → rounded_up (a - b) b ≡ rounded_up a b - 1
+  rounded_back a = omega (arith, least (a - b) (rounded_up a b - 1) (low (rounded_up a b) (reaches a)), high)
+    where
+      low : (u : ℕ) → a ≤ u * b → a - b ≤ (u - 1) * b
+      low zero h = omega arith
+      low (suc u) h = let e : suc u - 1 ≡ u = omega arith in rw e (omega arith)
+
+      high : rounded_up a b ≤ rounded_up (a - b) b + 1
+      high = least a (rounded_up (a - b) b + 1) (rw add-mul (omega (arith, reaches (a - b))))

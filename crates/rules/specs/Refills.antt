@@ -118,6 +118,13 @@ module _ (p : ℕ) (pos : 1 ≤ p) where
       let y : L + 1 - 1 + (p - d) ≡ L = omega arith in
       rw (idle, z, y, full) (omega (arith, div_grows (L - 1) L (omega arith)))
 
+  -- one that brings the next token nearer
+  pub ticks_on : (b m d : ℕ) (gave : Bool) → m < b → 1 < d → d ≤ p → (L : ℕ) → 1 ≤ L →
+      rest_curve p m (d - 1) false L ≡ min (rest_curve p m d gave (L + 1)) (full_curve b p L)
+  ticks_on b m d gave h low high L l =
+      let y : L + 1 - 1 + (p - d) ≡ L - 1 + (p - (d - 1)) = omega arith in
+      rw y (omega (arith, one_given gave, missing (d - 1) (L - 1)))
+
   -- one in which a token returns
   pub ticks_back : (b m d : ℕ) (gave : Bool) → m < b → d ≡ 1 → (L : ℕ) → 1 ≤ L →
       rest_curve p (m + 1) p false L ≡ min (rest_curve p m d gave (L + 1)) (full_curve b p L)

@@ -1,5 +1,6 @@
 -- Each fault of a sheet's bytes by layer, number and place, and how a refusal is written.
 use Rattle.std.specs.Prelude.{ℕ, List, ◌++◌, codes, decimal}
+use Rattle.std.proofs.Math.Utf8.{encode}
 use Rattle.sheet.specs.declared.fault.Layer.{Layer}
 use Rattle.sheet.specs.declared.fault.Layer.TheVariants as Layers
 use Rattle.sheet.specs.declared.fault.Refusal.{Refusal}
@@ -12,6 +13,7 @@ letter Layers.Sheet = codes "S"
 letter Layers.Set = codes "G"
 letter Layers.Plan = codes "K"
 letter Layers.Machine = codes "M"
+letter (Layers.Other c) = encode c
 
 -- A refusal of a sheet's bytes.
 abbrev pub by_sheet : ℕ → ℕ → Refusal

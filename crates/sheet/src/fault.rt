@@ -5,13 +5,15 @@ ghost use Rattle.sheet.specs.Faults.{letter, shown, fault_line};
 use crate::cursor::MAX_BYTES;
 use std::fmt;
 
-// What refuses: a sheet's bytes, a task set, a plan, or a machine.
+// What refuses: a sheet's bytes, a task set, a plan, or a machine; or what a program has above or beside these, by its letter. Nothing
+// here makes a refusal of such a layer.
 #[derive(Clone, Copy, PartialEq, Eq, Debug)]
 pub enum Layer {
     Sheet,
     Set,
     Plan,
     Machine,
+    Other(char),
 }
 
 // A refusal as it is written: the layer that refused, and what the table of refusals has for the fault: a number and a place.
@@ -40,11 +42,12 @@ impl fmt::Display for Layer {
     ghost output = { λ layer. Some (letter layer) };
 
     fn fmt<W: fmt::Write>(&self, f: &mut fmt::Formatter<W>) -> fmt::Result {
-        f.write_str(match self {
-            Layer::Sheet => "S",
-            Layer::Set => "G",
-            Layer::Plan => "K",
-            Layer::Machine => "M",
+        f.write_char(match *self {
+            Layer::Sheet => 'S',
+            Layer::Set => 'G',
+            Layer::Plan => 'K',
+            Layer::Machine => 'M',
+            Layer::Other(letter) => letter,
         })
     }
 }

@@ -1,7 +1,8 @@
 -- The laws of a priority order, the tasks of a set under them, and their ranks.
-use Rattle.std.proofs.Common.{◌≡◌, ℕ, zero, suc, ◌+◌, ◌<◌, ◌≤◌, Bool, true, false, length, T, sym, refl, ap, subst, inl, inr, arith}
+use Rattle.std.proofs.Common.{◌≡◌, ℕ, zero, suc, ◌+◌, ◌<◌, ◌≤◌, Bool, true, false, List, ◌∷◌, T, sym, refl, ap, ◌∙◌, subst, inl, inr, arith}
 use Rattle.std.proofs.lemmas.Bool.{cases_Bool, cases_eq}
-use Rattle.std.specs.List.{filter, range_with_len}
+use Rattle.std.proofs.lemmas.List.Recursion.{is_sum_by}
+use Rattle.std.specs.List.{range_with_len, sum_by}
 use Rattle.schedule.proofs.facts.Lists.{from_T, to_T, total_lt, in_below, below_in, one_if_le}
 use Rattle.schedule.specs.Lists.{◌∈◌, total, up_from, below, one_if}
 use Rattle.schedule.specs.Orders.{Ordered}
@@ -68,18 +69,13 @@ total_more f n =
     let d : f (0 + n) ≡ f n = ap f (omega arith) in
     rw e (omega (arith, more_from f 0 n))
 
--- how many numbers pass a test
-passing_from : (p : ℕ → Bool) (a n : ℕ) → length (filter p (range_with_len a n)) ≡ total (λ j. one_if (p j)) (up_from a n)
-passing_from p a zero = refl
-passing_from p a (suc n) =
-    let e : a + 1 ≡ suc a = omega arith in
-    elim (cases_Bool (p a)) [
-      | inl t ↦ rw (t, e) (omega (arith, passing_from p (suc a) n))
-      | inr f ↦ rw (f, e) (omega (arith, passing_from p (suc a) n))
-    ]
+numbers_from : (a n : ℕ) → range_with_len a n ≡ up_from a n
+numbers_from a zero = refl
+numbers_from a (suc n) = let e : a + 1 ≡ suc a = omega arith in rw e (ap (λ (xs : List ℕ). a ∷ xs) (numbers_from (suc a) n))
 
-pub passing_below : (p : ℕ → Bool) (n : ℕ) → length (filter p (range_with_len 0 n)) ≡ total (λ j. one_if (p j)) (below n)
-passing_below p n = passing_from p 0 n
+-- the sum over the numbers of a range
+pub sum_below : (f : ℕ → ℕ) (n : ℕ) → sum_by f (range_with_len 0 n) ≡ total f (below n)
+sum_below f n = sym (is_sum_by (total f) f refl (λ _ _. refl) (range_with_len 0 n)) ∙ ap (total f) (numbers_from 0 n)
 
 ones : (a n : ℕ) → total (λ _. 1) (up_from a n) ≡ n
 ones a zero = refl

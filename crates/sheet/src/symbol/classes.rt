@@ -1,6 +1,6 @@
 // The classes of bytes, and which values are within limits.
 ghost use Rattle.std.specs.Prelude.{◌≡◌};
-ghost use Rattle.sheet.specs.Reading.{symbol_of, within};
+ghost use Rattle.sheet.specs.Reading.{symbol_of, stops, within};
 
 use crate::symbol::{Limits, Stop, Symbol};
 
@@ -17,6 +17,15 @@ pub fn classify(byte: u8, digits: usize, value: u32) -> Symbol
         b' ' if digits > 0 => Symbol::Stop(Stop::Space),
         b'\n' if digits > 0 => Symbol::Stop(Stop::LineFeed),
         _ => Symbol::Other,
+    }
+}
+
+impl Stop {
+    // Whether the symbol is this stop.
+    pub fn is(self, symbol: Symbol) -> bool
+        ensures { result ≡ stops self symbol }
+    {
+        symbol == Symbol::Stop(self)
     }
 }
 
